@@ -1,0 +1,3 @@
+pub mod Names
+pub mod Format
+pub mod Sizes
