@@ -1,0 +1,17 @@
+pub mod Numbers
+pub mod Lacking
+pub mod Cuts
+pub mod Spaced
+pub mod Decimal
+pub mod Spellings
+pub mod Steps
+pub mod WrittenNumbers
+pub mod CallLines
+pub mod HeadLines
+pub mod Rowed
+pub mod CallRows
+pub mod Exact
+pub mod Failing
+pub mod Blaming
+pub mod Standing
+pub mod Placed

@@ -1,0 +1,8 @@
+pub mod Text
+pub mod Numbers
+pub mod Faults
+pub mod Calls
+pub mod Heads
+pub mod Reading
+pub mod Grammar
+pub mod Places
