@@ -1,7 +1,7 @@
 -- The first word of a text, as the code cuts it off.
 use mathlib.Core.Path.{_≡_, refl, sym, ap, subst, _∙_}
 use mathlib.Core.List.{List, [], _∷_}
-use Prim.Native.Nat.{ℕ, suc, _+_, _-_, _≤_, _<_}
+use Prim.Native.Nat.{ℕ, _+_, _-_, _≤_, _<_}
 use native.Mathlib.Omega.{arith}
 use lib.ListN.{length, take, drop}
 use Rattle.std.specs.declared.option.Option.{Option}
@@ -11,6 +11,7 @@ use Rattle.grammar.specs.Text.{Piece, parts, words, pieces}
 use Rattle.script.specs.Lines.{place}
 use Rattle.script.specs.declared.part.Part.{Part}
 use Rattle.script.specs.Parts.{wordsLeft}
+use Rattle.grammar.proofs.WrittenNumbers.{length-pieces}
 use Rattle.script.proofs.Splitting.{parts-at, words-last, words-some}
 
 -- `&text[0..n]` is the front
@@ -34,10 +35,6 @@ cut-more k n l is h =
 -- what stands behind the space ends where the text ends
 pub rest-near : (k n : ℕ) (l : List ℕ) → n < length l → k + length l ≤ 32768 → k + n + 1 + length (take (length l - (n + 1)) (drop (n + 1) l)) ≤ 32768
 rest-near k n l h near = omega (arith, ap length (take-rest l (n + 1)), length-drop (n + 1) l)
-
-length-pieces : (k : ℕ) (ws : List (List ℕ)) → length (pieces k ws) ≡ length ws
-length-pieces k [] = refl
-length-pieces k (w ∷ ws) = ap suc (length-pieces (k + length w + 1) ws)
 
 -- behind a space stands a word, perhaps an empty one
 pub some-left : (rest : Option Part) (p : Part) → rest ≡ Some p → length (wordsLeft rest) ≡ 0 → ⊥
