@@ -1,5 +1,7 @@
 //! Compares the reports on the scripts of the folder it runs in with what they must be: the report on
 //! NAME.script is to be the file NAME.expected.
+#![tactic(auto)]
+
 use report::report;
 use std::{fs, io};
 

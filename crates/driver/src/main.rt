@@ -1,4 +1,6 @@
 //! Reads a driver script from standard input, and prints the report on it.
+#![tactic(auto)]
+
 use report::report;
 use script::part::MAX_SCRIPT;
 use std::io;

@@ -1,5 +1,7 @@
 //! The report on a driver script: the lines on its head, its calls and its skipped lines, or the one
 //! line on its first fault.
+#![tactic(auto)]
+
 ghost use Rattle.std.specs.Prelude.{◌≡◌, ℕ, ◌<◌, IfOk, string_bytes, slice_index};
 ghost use Rattle.script.specs.CallsLeft.{calls_left};
 ghost use Rattle.script.specs.Parts.{failure_of};

@@ -1,5 +1,7 @@
 //! The vocabulary of the product: the calls, their answers, the refusals and faults with their
 //! numbers, and every word that a script or a report is written with.
+#![tactic(auto)]
+
 pub mod answer;
 pub mod call;
 pub mod fault;

@@ -15,14 +15,14 @@ pub(crate) trait Named: Copy {
 
 /// Whether a word is the word of the value.
 pub(crate) fn names<T: Named>(word: &[u8], value: T) -> bool
-    ensures { result ≡ bytes_eq word.now (spelling value) }
+    ensures { result ≡ bytes_eq word.now (T.spelling value) }
 {
     word == value.word().as_bytes()
 }
 
 /// The first of the values that a word names; none if it names none of them.
 pub(crate) fn find_named<T: Named>(values: &[T], word: &[u8]) -> Option<T>
-    ensures { result ≡ first_named spelling values.now word.now }
+    ensures { result ≡ first_named T.spelling values.now word.now }
 {
     for value in values {
         if names(word, *value) {

@@ -1,5 +1,7 @@
 //! The reader of driver scripts: from any bytes to the head and the calls that they ask for, or to
 //! the first fault with its part of the script.
+#![tactic(auto)]
+
 mod call;
 pub mod calls;
 mod count;
