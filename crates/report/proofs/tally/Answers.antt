@@ -3,8 +3,8 @@ use Rattle.rules.specs.Format.{verb_index}
 use Rattle.report.proofs.Counts.{count_small, counted_more}
 use Rattle.report.proofs.tally.Goals as goal
 
-pub overflow-add-counts : goal.overflow-add-counts
-overflow-add-counts c =
+pub overflow_add-counts : goal.overflow_add-counts
+overflow_add-counts c =
     let i = c.index.result in
     let below : i < 12 = search rules in
     omega (arith, c.loop-next.invariant.each i below, count_small i c.args.calls)

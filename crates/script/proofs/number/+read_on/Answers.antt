@@ -9,7 +9,7 @@ returns-in-empty t c = read_empty c.args.n c.args.word.now (omega (arith, ltb-tr
 pub returns-else-n-d : goal.returns-else-n-d
 returns-else-n-d t c =
     let d = c.from-d.ensures in
-    c.read-on.ensures
+    c.read_on.ensures
     ∙ ap (λ k. read_on (c.args.n * 10 + k) (take (length c.args.word.now - 1) (drop 1 c.args.word.now))) d
     ∙ read_digit c.args.n c.args.word.now (omega (arith, ltb-true, ltb-false)) (omega (arith, ltb-true, ltb-false)) (omega (arith, ltb-true, ltb-false)) (omega (arith, ltb-true, ltb-false))
 
@@ -18,8 +18,8 @@ returns-then-n-d t c =
     let d = c.from-d.ensures in
     read_big c.args.n c.args.word.now (omega (arith, ltb-true, ltb-false)) (omega (arith, ltb-true, ltb-false)) (omega (arith, ltb-true, ltb-false)) (omega (arith, ltb-true, ltb-false))
 
-pub returns-in-default : goal.returns-in-default
-returns-in-default t c = read_other c.args.n c.args.word.now (omega (arith, ltb-true, ltb-false)) (inl (omega (arith, ltb-true, ltb-false)))
+pub returns-in_default : goal.returns-in_default
+returns-in_default t c = read_other c.args.n c.args.word.now (omega (arith, ltb-true, ltb-false)) (inl (omega (arith, ltb-true, ltb-false)))
 
-pub returns-in-default·2 : goal.returns-in-default·2
-returns-in-default·2 t c = read_other c.args.n c.args.word.now (omega (arith, ltb-true, ltb-false)) (inr (omega (arith, ltb-true, ltb-false)))
+pub returns-in_default-2 : goal.returns-in_default-2
+returns-in_default-2 t c = read_other c.args.n c.args.word.now (omega (arith, ltb-true, ltb-false)) (inr (omega (arith, ltb-true, ltb-false)))

@@ -24,9 +24,9 @@ returns-in-48-2 c =
     let v : None ≡ number_of w = search rules in
     record { value = v; exact = subst (Exact w) (sym v) (exact w) }
 
-pub returns-in-default : goal.returns-in-default
+pub returns-in_default : goal.returns-in_default
 unfolding number_of
-returns-in-default c =
+returns-in_default c =
     let w = c.args.word.now in
-    let v : c.read-on.result ≡ number_of w = search rules in
+    let v : c.read_on.result ≡ number_of w = search rules in
     record { value = v; exact = subst (Exact w) (sym v) (exact w) }

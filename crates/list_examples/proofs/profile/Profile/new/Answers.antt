@@ -21,8 +21,8 @@ loop-i-preserved c =
     let xs' = members write_after c.push-back.new.nodes c.push-back.new.self in
     (omega (arith, inv.0, c.push-back.auto.nodes), e.sound, one_more i xs xs' inv.2 e.holds, e.leaves.fields ∙ inv.3)
 
-pub invariant-of-result : goal.invariant-of-result
-invariant-of-result c = (∣ c.loop-i.invariant.1 ∣₁, tt)
+pub invariant_of-result : goal.invariant_of-result
+invariant_of-result c = (∣ c.loop-i.invariant.1 ∣₁, tt)
 
 pub returns : goal.returns
 returns c =

@@ -10,8 +10,8 @@ use Rattle.list_examples.proofs.profile.Profile.next_write.Goals as goal
 pub pop-front-requires : goal.pop-front-requires
 pop-front-requires c = truly c.args.self.now.sound
 
-pub invariant-of-self : goal.invariant-of-self
-invariant-of-self c = (∣ c.pop-front.ensures.sound ∣₁, tt)
+pub invariant_of-self : goal.invariant_of-self
+invariant_of-self c = (∣ c.pop-front.ensures.sound ∣₁, tt)
 
 pub bounds-self-i : goal.bounds-self-i
 bounds-self-i c =

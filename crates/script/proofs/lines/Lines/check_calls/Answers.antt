@@ -6,5 +6,5 @@ use Rattle.script.proofs.lines.Lines.check_calls.Goals as goal
 
 pub loop-preserved : goal.loop-preserved
 loop-preserved c =
-    let found = subst (λ (o : Option NumberedCall). CallRead c.loop.self (Ok o) c.next-call.new.self) c.in-Some.is c.in-ok-next-call.ensures in
+    let found = subst (λ (o : Option NumberedCall). CallRead c.loop.self (Ok o) c.next_call.new.self) c.in-Some.is c.in_ok-next_call.ensures in
     checking_more _ _ _ _ c.loop.invariant found
