@@ -14,7 +14,7 @@ fn script_names(rt: &HostRuntime) -> io::Result<Vec<String>> {
             names.push(String::from_str(rt.alloc(), name)?)?;
         }
     }
-    names.sort();
+    names.sort()?;
     Ok(names)
 }
 

@@ -1,5 +1,5 @@
 -- Faults, and how a step that fails ends the reading.
-use Rattle.std.specs.Prelude.{ℕ, List, Some, None, Ok, Err, Option, Result}
+use Rattle.std.specs.Prelude.{ℕ, Some, Ok, Err, Option, Result}
 use Rattle.rules.specs.declared.fault.FaultKind.{FaultKind}
 use Rattle.rules.specs.declared.fault.FaultKind.TheVariants.{BadWord, Refused}
 use Rattle.rules.specs.declared.refusal.Refusal.{Refusal}

@@ -1,5 +1,5 @@
 -- The grammar in its own words: of what an admitted script is made.
-use Rattle.std.specs.Prelude.{◌≡◌, ℕ, ◌+◌, ◌^◌, ◌<◌, ◌≤◌, Bool, true, cond, List, [], ◌∷◌, ◌++◌, map, length, decimal, MatchResult, ◌≢◌}
+use Rattle.std.specs.Prelude.{◌≡◌, ℕ, ◌+◌, ◌^◌, ◌<◌, ◌≤◌, true, cond, List, [], ◌∷◌, ◌++◌, map, length, decimal, MatchResult, ◌≢◌}
 use Rattle.rules.specs.declared.call.Call.{Call}
 use Rattle.rules.specs.declared.call.Call.TheVariants.{Queue, Delay, Advance, Start, Sleep, Wake, Finish, Cancel, Limit, Flush, Collect, Close}
 use Rattle.rules.specs.Format.{verb_text, verb_of}

@@ -1,7 +1,7 @@
 -- The first word of a text, as the code cuts it off.
-use Rattle.std.proofs.Common.{◌≡◌, ℕ, ◌+◌, ◌-◌, ◌<◌, ◌≤◌, List, [], ◌∷◌, length, take, drop, Some, Option, sym, refl, ap, ◌∙◌, subst, arith}
+use Rattle.std.proofs.Common.{◌≡◌, ℕ, ◌+◌, ◌-◌, ◌<◌, ◌≤◌, List, [], ◌∷◌, length, take, drop, Some, Option, sym, ap, ◌∙◌, subst, arith}
 use Rattle.std.proofs.lemmas.List.{take_all, take_rest, length-take-le, length-drop}
-use Rattle.grammar.specs.Text.{Piece, parts, words, pieces}
+use Rattle.grammar.specs.Text.{words, pieces}
 use Rattle.script.specs.Lines.{place}
 use Rattle.script.specs.declared.part.Part.{Part}
 use Rattle.script.specs.Parts.{words_left}

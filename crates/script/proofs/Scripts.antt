@@ -1,5 +1,5 @@
 -- A whole script, from the steps of its reader.
-use Rattle.std.proofs.Common.{◌≡◌, ℕ, ◌+◌, ◌<◌, ◌≤◌, ltb, List, length, IfErr, None, Ok, Err, Result, sym, refl, ap, ◌∙◌, subst, arith, MatchResult}
+use Rattle.std.proofs.Common.{◌≡◌, ℕ, ◌<◌, ◌≤◌, ltb, List, length, IfErr, None, Ok, Err, Result, sym, ap, ◌∙◌, subst, arith, MatchResult}
 use Rattle.std.proofs.lemmas.Bool.{cond-true, cond-false, lt-ltb, le-ltb}
 use Rattle.rules.specs.declared.fault.FaultKind.TheVariants.{ScriptTooLong}
 use Rattle.grammar.specs.declared.head.Head.{Head}
@@ -12,7 +12,7 @@ use Rattle.grammar.specs.Places.{PartStands}
 use Rattle.grammar.proofs.Exact.{exactly}
 use Rattle.grammar.proofs.Placed.{placed}
 use Rattle.script.specs.declared.lines.Lines.{Lines}
-use Rattle.script.specs.Lines.{lines_left, rows_left, Fresh}
+use Rattle.script.specs.Lines.{rows_left, Fresh}
 use Rattle.script.specs.declared.fault.Fault.{Fault}
 use Rattle.script.specs.declared.lines.Outline.{Outline}
 use Rattle.script.specs.Parts.{failure_of}

@@ -1,8 +1,8 @@
 -- The first line of what is left of a script, as the code cuts it off.
-use Rattle.std.proofs.Common.{◌≡◌, ℕ, ◌+◌, ◌-◌, ◌<◌, ◌≤◌, min, List, [], ◌∷◌, length, take, drop, sym, refl, ap, ◌∙◌, subst, ⊎_elim, arith}
+use Rattle.std.proofs.Common.{◌≡◌, ℕ, ◌+◌, ◌-◌, ◌<◌, ◌≤◌, min, List, [], ◌∷◌, length, take, drop, sym, ap, ◌∙◌, subst, ⊎_elim, arith}
 use Rattle.std.proofs.lemmas.List.{length-take-le, length-drop, take_rest, take_all, drop_all, drop-drop}
 use Rattle.std.proofs.lemmas.Bool.{cases_lt}
-use Rattle.grammar.specs.Text.{parts, lines, rows}
+use Rattle.grammar.specs.Text.{lines, rows}
 use Rattle.script.specs.Lines.{place}
 use Rattle.script.proofs.Splitting.{parts_at, lines_last}
 

@@ -1,5 +1,5 @@
 -- The calls of a script that are left, and the step to the next.
-use Rattle.std.specs.Prelude.{◌≡◌, ℕ, ◌<◌, List, [], ◌∷◌, length, Some, None, Option}
+use Rattle.std.specs.Prelude.{◌≡◌, List, [], ◌∷◌, Some, None, Option}
 use Rattle.grammar.specs.declared.numbered.NumberedCall.{NumberedCall}
 use Rattle.grammar.specs.Reading.{good_calls}
 use Rattle.script.specs.declared.lines.Calls.{Calls}

@@ -1,5 +1,5 @@
 -- The step of the line reader to the next line that is not skipped.
-use Rattle.std.specs.Prelude.{◌≡◌, ℕ, ◌+◌, ◌<◌, ◌≤◌, List, [], ◌∷◌, Some, None, Ok, Err, Option, Result}
+use Rattle.std.specs.Prelude.{◌≡◌, ◌+◌, ◌<◌, [], ◌∷◌, Some, None, Ok, Err, Option, Result}
 use Rattle.script.specs.declared.fault.Fault.{Fault}
 use Rattle.script.specs.declared.lines.Lines.{Lines}
 use Rattle.script.specs.declared.lines.WordLine.{WordLine}

@@ -1,5 +1,5 @@
 -- The line reader: what is left of a script, and one step.
-use Rattle.std.specs.Prelude.{◌≡◌, ℕ, ◌+◌, ◌<◌, true, false, cond, List, [], ◌∷◌, drop, Some, None, Option, ◌==◌}
+use Rattle.std.specs.Prelude.{◌≡◌, ℕ, ◌+◌, ◌<◌, false, cond, List, [], ◌∷◌, drop, Some, None, Option, ◌==◌}
 use Rattle.script.specs.declared.line.Line.{Line}
 use Rattle.script.specs.declared.line.Line.TheVariants.{Empty, Comment, Words}
 use Rattle.script.specs.declared.lines.Lines.{Lines}

@@ -9,5 +9,5 @@ pub loop-verb-preserved : goal.loop-verb-preserved
 loop-verb-preserved c =
     let below : c.index.result < 12 = search rules in
     let count = c.tally-counts.ensures c.index.result below ∙ ap (λ k. count_at k (calls_left c.args.calls)) c.index.ensures in
-    let text = pushed c.as-str.result.now c.loop-verb.invariant c.in_ok-push-str.was c.push-str.ensures.bytes in
-    lines_more (calls_left c.args.calls) _ _ _ _ c.loop-verb.verb-index _ c.loop-verb-test.true text (c.as-str.ensures.value ∙ c.in_ok-line.ensures.ok) c.text-name.ensures count
+    let text = pushed c.as_str.result.now c.loop-verb.invariant c.in_ok-push_str.was c.push_str.ensures.bytes in
+    lines_more (calls_left c.args.calls) _ _ _ _ c.loop-verb.verb-index _ c.loop-verb-test.true text (c.as_str.ensures.value ∙ c.in_ok-line.ensures.ok) c.text-name.ensures count

@@ -1,4 +1,4 @@
-use Rattle.std.proofs.Common.{◌≡◌, ◌+◌, ◌-◌, ◌*◌, length, get_or, take, drop, ap, ◌∙◌, inl, inr, arith, ltb-false, ltb-true}
+use Rattle.std.proofs.Common.{◌+◌, ◌-◌, ◌*◌, length, take, drop, ap, ◌∙◌, inl, inr, arith, ltb-false, ltb-true}
 use Rattle.grammar.specs.Numbers.{read_on}
 use Rattle.script.proofs.Digits.{read_empty, read_digit, read_big, read_other}
 use Rattle.script.proofs.number.+read_on.Goals as goal

@@ -1,4 +1,4 @@
-use Rattle.std.proofs.Common.{◌≡◌, Ok, Option, subst}
+use Rattle.std.proofs.Common.{Ok, Option, subst}
 use Rattle.grammar.specs.declared.numbered.NumberedCall.{NumberedCall}
 use Rattle.script.specs.Outcome.{CallRead}
 use Rattle.script.proofs.Checking.{checking_more}

@@ -1,4 +1,4 @@
-use Rattle.std.proofs.Common.{◌≡◌, Ok, Option, ap, ◌∙◌, subst}
+use Rattle.std.proofs.Common.{Ok, Option, ap, ◌∙◌, subst}
 use Rattle.std.proofs.lemmas.Result.{err_from_is_err_and}
 use Rattle.grammar.specs.Faults.{in_row, passed}
 use Rattle.script.specs.declared.lines.WordLine.{WordLine}

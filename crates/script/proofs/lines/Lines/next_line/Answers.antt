@@ -1,6 +1,5 @@
-use Rattle.std.proofs.Common.{◌≡◌, ℕ, ◌+◌, ◌-◌, ◌<◌, ◌∷◌, length, drop, sym, refl, ap, ◌∙◌, arith}
-use Rattle.grammar.specs.Text.{lines, rows}
-use Rattle.script.proofs.Stepping.{Step, stepped, row_step, lines_none}
+use Rattle.std.proofs.Common.{◌+◌, length, refl, ap, arith}
+use Rattle.script.proofs.Stepping.{stepped, row_step, lines_none}
 use Rattle.script.proofs.lines.Lines.next_line.Goals as goal
 
 pub returns-then-at-script : goal.returns-then-at-script
