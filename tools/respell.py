@@ -1,9 +1,9 @@
 #!/usr/bin/env python3
 """Brings this repository's own definitions and lemmas to one spelling; run once, after the toolchain's port.py, at the top.
 
-Words are in snake case: `verbText` is `verb_text`, `call-blames` is `call_blames`. In a lemma's name a dash stays
-only between two names of functions, as in `length-rows`. Where two names would fall together, the lemma's gets `_lem`.
-Goals keep the names that the check gives them, and so do Rust items, records' fields, files and modules.
+Words are in snake case, in the names of fields too: `verbText` is `verb_text`, `call-blames` is `call_blames`. In a
+lemma's name a dash stays only between two names of functions, as in `length-rows`. Where two names would fall together,
+the lemma's gets `_lem`. Goals keep the names that the check gives them, and so do Rust items, files and modules.
 
 usage: python3 tools/respell.py          rewrites crates/**/*.antt, *.rt and *.edit
        python3 tools/respell.py --list   prints the names, old and new, and writes nothing
@@ -16,7 +16,7 @@ import sys
 # names of the library that lemmas here join by a dash to one of ours
 OF_STD = {"length", "take", "drop", "map", "decimal"}
 
-DEFINITION = re.compile(r"^(?:(?:abbrev|unfoldable|pub)\s+)*([A-Za-z][\w'-]*)\s+:(.*)$", re.M)
+DEFINITION = re.compile(r"^( *)(?:(?:abbrev|unfoldable|pub)\s+)*([A-Za-z][\w'-]*)\s+:(.*)$", re.M)
 CAMEL = re.compile(r"[a-z][a-z0-9]*(?:[A-Z][a-z0-9]*)+")
 WORD = re.compile(r"[A-Za-z_][\w'-]*")
 
@@ -35,12 +35,13 @@ def read(path):
 
 
 def defined():
-    """The names of functions (of specs/) and of lemmas (of proofs/), without the answers to goals."""
-    functions, lemmas = set(), set()
+    """The names of functions (of specs/) and of the rest: lemmas and fields, without the answers to goals."""
+    functions, others = set(), set()
     for path in files((".antt",)):
-        to = functions if "/specs/" in path else lemmas
-        to.update(m[1] for m in DEFINITION.finditer(read(path)) if not m[2].strip().startswith("goal."))
-    return functions, lemmas
+        for m in DEFINITION.finditer(read(path)):
+            if not m[3].strip().startswith("goal."):
+                (functions if "/specs/" in path and not m[1] else others).add(m[2])
+    return functions, others - functions
 
 
 def snake(name):
@@ -59,10 +60,10 @@ def lemma(name, functions):
 
 
 def renamings():
-    functions, lemmas = defined()
+    functions, others = defined()
     to = {name: snake(name) for name in functions}
     known = set(to.values()) | OF_STD
-    for name in sorted(lemmas - functions, key=lambda n: (not CAMEL.fullmatch(n), n)):
+    for name in sorted(others, key=lambda n: (not CAMEL.fullmatch(n), n)):
         turned = lemma(name, known)
         to[name] = turned + "_lem" if turned in to.values() else turned
     if len(set(to.values())) != len(to):

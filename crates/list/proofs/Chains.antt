@@ -12,19 +12,19 @@ pub record Changed (link link' : Option ℕ → Option ℕ) (a v : Option ℕ) (
 
 module _ (next prev : Option ℕ → Option ℕ) where
   -- what comes after the place in front of the records
-  pub first-is : (a : Option ℕ) (xs : List ℕ) → Between next prev a xs None → next a ≡ first xs
-  first-is a [] (n, p) = n
-  first-is a (x ∷ xs) (n, p, rest) = n
+  pub first_is : (a : Option ℕ) (xs : List ℕ) → Between next prev a xs None → next a ≡ first xs
+  first_is a [] (n, p) = n
+  first_is a (x ∷ xs) (n, p, rest) = n
 
   -- what comes before the place behind them
-  pub last-is : (a : Option ℕ) (xs : List ℕ) (b : Option ℕ) → Between next prev a xs b → prev b ≡ last_or a xs
-  last-is a [] b (n, p) = p
-  last-is a (x ∷ xs) b (n, p, rest) = last-is (Some x) xs b rest
+  pub last_is : (a : Option ℕ) (xs : List ℕ) (b : Option ℕ) → Between next prev a xs b → prev b ≡ last_or a xs
+  last_is a [] b (n, p) = p
+  last_is a (x ∷ xs) b (n, p, rest) = last_is (Some x) xs b rest
 
   -- the neighbours of the record i
-  pub neighbours-are : (q : Option ℕ) (a : List ℕ) (i : ℕ) (b : List ℕ) → Between next prev q (a ++ i ∷ b) None → (prev (Some i) ≡ last_or q a) × (next (Some i) ≡ first b)
-  neighbours-are q [] i b (n, p, rest) = (p, first-is (Some i) b rest)
-  neighbours-are q (x ∷ a) i b (n, p, rest) = neighbours-are (Some x) a i b rest
+  pub neighbours_are : (q : Option ℕ) (a : List ℕ) (i : ℕ) (b : List ℕ) → Between next prev q (a ++ i ∷ b) None → (prev (Some i) ≡ last_or q a) × (next (Some i) ≡ first b)
+  neighbours_are q [] i b (n, p, rest) = (p, first_is (Some i) b rest)
+  neighbours_are q (x ∷ a) i b (n, p, rest) = neighbours_are (Some x) a i b rest
 
   module _ (next' prev' : Option ℕ → Option ℕ) where
     -- links that are as they were

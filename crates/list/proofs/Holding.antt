@@ -7,7 +7,7 @@ use Rattle.list.specs.Links.{link_at, Between, walk}
 use Rattle.list.specs.Lists.{Holds, members, Sound}
 use Rattle.list.proofs.Counting.{one, times_append, in_first, last_or, times-first, times_last, joint}
 use Rattle.list.proofs.Splitting.{Split, following_split, pigeons}
-use Rattle.list.proofs.Chains.{first-is, last-is, neighbours-are}
+use Rattle.list.proofs.Chains.{first_is, last_is, neighbours_are}
 
 -- the walk along the links finds the records
 walked : (nexts : List (Option ℕ)) (front : Option ℕ) (prev : Option ℕ → Option ℕ) (q : Option ℕ) (xs : List ℕ)
@@ -18,18 +18,18 @@ walked nexts front prev q (x ∷ xs) (n, p, rest) =
 
 module _ {nexts prevs : List (Option ℕ)} {list : LinkedList} {xs : List ℕ} (h : Holds nexts prevs list xs) where
   -- so what the list holds are its members
-  pub members-are : walk nexts list.front list.count ≡ xs
-  members-are =
+  pub members_are : walk nexts list.front list.count ≡ xs
+  members_are =
       ap (walk nexts list.front) h.count ∙ walked nexts list.front (link_at prevs list.back) None xs h.linked
 
   pub held : Holds nexts prevs list (walk nexts list.front list.count)
-  held = let P : List ℕ → Type 0 = Holds nexts prevs list in subst P (sym members-are) h
+  held = let P : List ℕ → Type 0 = Holds nexts prevs list in subst P (sym members_are) h
 
   pub back_is : list.back ≡ last_or None xs
-  back_is = last-is (link_at nexts list.front) (link_at prevs list.back) None xs None h.linked
+  back_is = last_is (link_at nexts list.front) (link_at prevs list.back) None xs None h.linked
 
-  pub front-is : list.front ≡ first xs
-  front-is = first-is (link_at nexts list.front) (link_at prevs list.back) None xs h.linked
+  pub front_is : list.front ≡ first xs
+  front_is = first_is (link_at nexts list.front) (link_at prevs list.back) None xs h.linked
 
   -- the back is in the list
   pub back_in : (k : ℕ) → times k (listed list.back) ≤ times k xs
@@ -49,29 +49,29 @@ module _ {nexts prevs : List (Option ℕ)} {list : LinkedList} {xs : List ℕ} (
       let P : List ℕ → Type 0 = λ ys. Between (link_at nexts list.front) (link_at prevs list.back) None ys None in
       subst P s.is h.linked
 
-  pub prev-is : get_or prevs i None ≡ last_or None s.ahead
-  prev-is = (neighbours-are (link_at nexts list.front) (link_at prevs list.back) None s.ahead i s.behind chain).0
+  pub prev_is : get_or prevs i None ≡ last_or None s.ahead
+  prev_is = (neighbours_are (link_at nexts list.front) (link_at prevs list.back) None s.ahead i s.behind chain).0
 
-  pub next-is : get_or nexts i None ≡ first s.behind
-  next-is = (neighbours-are (link_at nexts list.front) (link_at prevs list.back) None s.ahead i s.behind chain).1
+  pub next_is : get_or nexts i None ≡ first s.behind
+  next_is = (neighbours_are (link_at nexts list.front) (link_at prevs list.back) None s.ahead i s.behind chain).1
 
-  pub following-is : get_or nexts i None ≡ following i xs
-  following-is = next-is ∙ sym (ap (following i) s.is ∙ following_split i s.ahead s.behind s.new)
+  pub following_is : get_or nexts i None ≡ following i xs
+  following_is = next_is ∙ sym (ap (following i) s.is ∙ following_split i s.ahead s.behind s.new)
 
   -- how often a number is before i, and from i on
   pub parts : (k : ℕ) → times k xs ≡ times k s.ahead + times k (i ∷ s.behind)
   parts k = ap (times k) s.is ∙ times_append k s.ahead (i ∷ s.behind)
 
   -- the neighbours of i are in the list
-  pub prev-in : (k : ℕ) → times k (listed (get_or prevs i None)) ≤ times k xs
-  prev-in k = omega (arith, ap (λ q. times k (listed q)) prev-is, times_last k None s.ahead, parts k)
+  pub prev_in : (k : ℕ) → times k (listed (get_or prevs i None)) ≤ times k xs
+  prev_in k = omega (arith, ap (λ q. times k (listed q)) prev_is, times_last k None s.ahead, parts k)
 
-  pub next-in : (k : ℕ) → times k (listed (get_or nexts i None)) ≤ times k xs
-  next-in k = omega (arith, ap (λ q. times k (listed q)) next-is, times-first k s.behind, parts k)
+  pub next_in : (k : ℕ) → times k (listed (get_or nexts i None)) ≤ times k xs
+  next_in k = omega (arith, ap (λ q. times k (listed q)) next_is, times-first k s.behind, parts k)
 
   -- a record that is not in the list is neither i nor a neighbour of i
-  pub not-around : (k : ℕ) → NotIn k xs → NotIn k (i ∷ (listed (get_or prevs i None) ++ listed (get_or nexts i None)))
-  not-around k out = omega (arith, parts k, prev-in k, next-in k, times_append k (listed (get_or prevs i None)) (listed (get_or nexts i None)))
+  pub not_around : (k : ℕ) → NotIn k xs → NotIn k (i ∷ (listed (get_or prevs i None) ++ listed (get_or nexts i None)))
+  not_around k out = omega (arith, parts k, prev_in k, next_in k, times_append k (listed (get_or prevs i None)) (listed (get_or nexts i None)))
 
   -- the list is not empty
   pub some : 0 < list.count

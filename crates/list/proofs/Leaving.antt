@@ -6,7 +6,7 @@ use Rattle.list.specs.Links.{link_at}
 use Rattle.list.specs.Lists.{Holds, members}
 use Rattle.list.specs.Changes.{Untouched, LetGo, Leaves}
 use Rattle.list.proofs.Chains.{kept}
-use Rattle.list.proofs.Holding.{held, members-are}
+use Rattle.list.proofs.Holding.{held, members_are}
 
 -- a list that is longer than some number has an element
 some_of : {N : Type 0} (ns : List N) (k : ℕ) → k < length ns → N
@@ -15,8 +15,8 @@ some_of (n ∷ ns) k lt = n
 
 module _ {N : Type 0} (after before : N → Option ℕ) (bare : N → N) (ns ns' : List N) (same : length ns' ≡ length ns) where
   -- a record that is as it was has the links that it had
-  link-kept : (link : N → Option ℕ) (k : ℕ) → k < length ns → ((d : N) → get_or ns' k d ≡ get_or ns k d) → get_or (map link ns') k None ≡ get_or (map link ns) k None
-  link-kept link k lt far =
+  link_kept : (link : N → Option ℕ) (k : ℕ) → k < length ns → ((d : N) → get_or ns' k d ≡ get_or ns k d) → get_or (map link ns') k None ≡ get_or (map link ns) k None
+  link_kept link k lt far =
       let d = some_of ns k lt in
       get_or-map link ns' k d None (omega (arith, same)) ∙ ap link (far d) ∙ sym (get_or-map link ns k d None lt)
 
@@ -32,13 +32,13 @@ module _ {N : Type 0} (after before : N → Option ℕ) (bare : N → N) (ns ns'
               (λ k i.
               let lt : k < length ns = omega (arith, s.inside k i, length-map ns after) in
               let as-was = λ (d : N). far k d (less k (disjoint k i)) in
-              (link-kept after k lt as-was, link-kept before k lt as-was))
+              (link_kept after k lt as-was, link_kept before k lt as-was))
               s.linked;
           count = s.count;
           inside = λ k i. omega (arith, s.inside k i, length-map ns after, length-map ns' after);
           distinct = s.distinct;
         } in
-        (held h, members-are h);
+        (held h, members_are h);
   }
 
   -- a record with no links, and otherwise what it was, is what it was with its links taken off
@@ -58,5 +58,5 @@ module _ {N X : Type 0} (bare : N → N) (field : N → X) (keeps : (x : N) → 
   of_bare [] = refl
   of_bare (n ∷ ns) = λ j. keeps n j ∷ of_bare ns j
 
-  pub field-kept : (ns ns' : List N) → map bare ns' ≡ map bare ns → map field ns' ≡ map field ns
-  field-kept ns ns' e = sym (of_bare ns') ∙ ap (map field) e ∙ of_bare ns
+  pub field_kept : (ns ns' : List N) → map bare ns' ≡ map bare ns → map field ns' ≡ map field ns
+  field_kept ns ns' e = sym (of_bare ns') ∙ ap (map field) e ∙ of_bare ns

@@ -11,7 +11,7 @@ use Rattle.list.proofs.Counting.{one, times_append, last_or, times-first, times_
 use Rattle.list.proofs.Splitting.{split, without_split, in_front}
 use Rattle.list.proofs.Chains.{extended, shortened}
 use Rattle.list.proofs.Writing.{taken_off, rewired}
-use Rattle.list.proofs.Holding.{members-are, held, front-is, back_is, back_in, chain, prev-is, next-is, parts, not-around, in_slice}
+use Rattle.list.proofs.Holding.{members_are, held, front_is, back_is, back_in, chain, prev_is, next_is, parts, not_around, in_slice}
 use Rattle.list.proofs.Leaving.{leaves, let_go}
 
 -- The records ns are now ns', and the list is now list'.
@@ -42,17 +42,17 @@ module _ {N : Type 0} (after before : N → Option ℕ) (bare : N → N) (ns ns'
       let h = holds_pushed new r c in
       record {
         sound = held h;
-        holds = members-are h;
+        holds = members_are h;
         leaves = leaves after before bare ns ns' same (i ∷ members after ns list) (i ∷ listed list.back) r.fields
             (λ k d out. r.far k d (omega (arith, times_append k (listed list.back) [])))
             (λ k out. omega (arith, back_in s k));
       }
 
   -- the record i was taken out from between p and n
-  holds-removed : In i (members after ns list) → (p n : Option ℕ) → p ≡ get_or (map before ns) i None → n ≡ get_or (map after ns) i None
+  holds_removed : In i (members after ns list) → (p n : Option ℕ) → p ≡ get_or (map before ns) i None → n ≡ get_or (map after ns) i None
       → Rewired after before bare ns ns' list list' p n n p i None None → list'.count ≡ list.count - 1
       → Holds (map after ns') (map before ns') list' (without i (members after ns list))
-  holds-removed t p n p-was n-was r c =
+  holds_removed t p n p-was n-was r c =
       let xs = members after ns list in
       let at = split i xs t in
       let a = at.ahead in
@@ -62,7 +62,7 @@ module _ {N : Type 0} (after before : N → Option ℕ) (bare : N → N) (ns ns'
       let links = rewired after before bare ns ns' list list' (last_or None a) (first b) (first b) (last_or None a) i None None lt
       (within (last_or None a) xs (length ns) (λ k. omega (arith, times_last k None a, parts s at k)) below)
       (within (first b) xs (length ns) (λ k. omega (arith, times-first k b, parts s at k)) below)
-      (subst₂ R (p-was ∙ prev-is s at) (n-was ∙ next-is s at) r) in
+      (subst₂ R (p-was ∙ prev_is s at) (n-was ∙ next_is s at) r) in
       let fewer : (k : ℕ) → times k (a ++ b) ≤ times k xs = λ k. omega (arith, times_append k a b, parts s at k) in
       let P : List ℕ → Type 0 = Holds (map after ns') (map before ns') list' in
       subst P (sym (ap (without i) at.is ∙ without_split i a b at.new))
@@ -80,17 +80,17 @@ module _ {N : Type 0} (after before : N → Option ℕ) (bare : N → N) (ns ns'
       → Rewired after before bare ns ns' list list' p n n p i None None → list'.count ≡ list.count - 1
       → Removed after before bare ns ns' list list' i
   removed alone still whole t p n p-was n-was r c =
-      let h = holds-removed t p n p-was n-was r c in
+      let h = holds_removed t p n p-was n-was r c in
       let P : List ℕ → Type 0 = Untouched ns ns' in
       record {
         sound = held h;
-        holds = members-are h;
+        holds = members_are h;
         alone = let_go after before bare ns ns' same alone still whole i lt r.fields
             (taken_off (links_with (map before ns) n p) (map before ns') i (omega (arith, length-map ns' before)) r.prevs)
             (taken_off (links_with (map after ns) p n) (map after ns') i (omega (arith, length-map ns' after)) r.nexts);
         leaves = leaves after before bare ns ns' same (members after ns list) (around after before ns (Some i)) r.fields
             (subst P (λ j. i ∷ (listed (p-was j) ++ listed (n-was j))) r.far)
-            (not-around s (split i (members after ns list) t));
+            (not_around s (split i (members after ns list) t));
       }
 
 -- the record that was let go was the front
@@ -98,7 +98,7 @@ pub popped : {N : Type 0} (after before : N → Option ℕ) (bare : N → N) (ns
     → Sound after before ns list → list.front ≡ Some i → Removed after before bare ns ns' list list' i → Popped after before bare ns ns' list list' list.front
 popped after before bare ns ns' list list' i s is r =
     let P : Option ℕ → Type 0 = λ q. Popped after before bare ns ns' list list' q in
-    let front = sym (front-is s) ∙ is in
+    let front = sym (front_is s) ∙ is in
     subst P (sym is)
     (record {
       front = sym front;

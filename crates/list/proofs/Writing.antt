@@ -31,8 +31,8 @@ written {N} link other bare ns i was is at to e l o b =
 
 -- the link at the place a is set to v
 module _ (links : List (Option ℕ)) (end a v : Option ℕ) where
-  length-with : length (links_with links a v) ≡ length links
-  length-with = elim a as (λ p. length (links_with links p v) ≡ length links) [ None ↦ refl | Some j ↦ length-set links j v ]
+  length_with : length (links_with links a v) ≡ length links
+  length_with = elim a as (λ p. length (links_with links p v) ≡ length links) [ None ↦ refl | Some j ↦ length-set links j v ]
 
   -- it is v there
   here : Within a (length links) → link_at (links_with links a v) (end_with end a v) a ≡ v
@@ -62,7 +62,7 @@ changed links links' end end' a v i w in-a in-i ls e =
     subst P (sym ls)
     (subst Q (sym e)
     (record {
-      own = here once (end_with end a v) (Some i) w (omega (arith, length-with links end a v));
+      own = here once (end_with end a v) (Some i) w (omega (arith, length_with links end a v));
       at = λ ne. elsewhere once (end_with end a v) (Some i) w a ne ∙ here links end a v in-a;
       others = λ q ne ne'. elsewhere once (end_with end a v) (Some i) w q ne' ∙ elsewhere links end a v q ne;
     }))

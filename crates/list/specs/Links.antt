@@ -1,5 +1,5 @@
 -- Links between records, by their numbers. The place None is the list itself: its first record comes after it, and its last record before it.
-use Rattle.std.specs.Prelude.{◌≡◌, ℕ, zero, suc, ◌<◌, List, [], ◌∷◌, set, Some, None, Option, slice_index_or, slice_set}
+use Rattle.std.specs.Prelude.{◌≡◌, ℕ, zero, suc, ◌<◌, List, [], ◌∷◌, Some, None, Option, slice_index_or, slice_set}
 
 -- the link at a place: that of a record, or the end that the list has there
 abbrev pub link_at : List (Option ℕ) → Option ℕ → Option ℕ → Option ℕ

@@ -1,5 +1,5 @@
 -- What the writes of links inside an operation leave in the records and in the list.
-use Rattle.std.specs.Prelude.{◌≡◌, ℕ, List, ◌∷◌, ◌++◌, map, set, Option, slice_set}
+use Rattle.std.specs.Prelude.{◌≡◌, ℕ, List, ◌∷◌, ◌++◌, map, Option, slice_set}
 use Rattle.list.specs.declared.linked_list.LinkedList.{LinkedList}
 use Rattle.list.specs.Numbers.{listed}
 use Rattle.list.specs.Links.{links_with, end_with}

@@ -33,9 +33,9 @@ impl LinkedList {
     /// Puts the record `i`, which does not stand in the list, at its end.
     pub fn push_back<N: Node>(&mut self, nodes: &mut [N], i: u16)
         requires inside { i < length nodes.old }
-        requires sound { Sound after before nodes.old self.old }
-        requires new { NotIn i (members after nodes.old self.old) }
-        ensures { Pushed after before bare nodes.old nodes.new self.old self.new i }
+        requires sound { Sound N.after N.before nodes.old self.old }
+        requires new { NotIn i (members N.after nodes.old self.old) }
+        ensures { Pushed N.after N.before N.bare nodes.old nodes.new self.old self.new i }
     {
         let back = self.back;
         self.link(nodes, back, i, None);
@@ -43,8 +43,8 @@ impl LinkedList {
 
     /// Takes the first record of the list, if there is one, and tells its number.
     pub fn pop_front<N: Node>(&mut self, nodes: &mut [N]) -> Option<u16>
-        requires { Sound after before nodes.old self.old }
-        ensures { Popped after before bare nodes.old nodes.new self.old self.new result }
+        requires { Sound N.after N.before nodes.old self.old }
+        ensures { Popped N.after N.before N.bare nodes.old nodes.new self.old self.new result }
     {
         let front = self.front;
         self.drop_front(nodes);
@@ -53,9 +53,9 @@ impl LinkedList {
 
     /// Lets the record `i` of the list go, from wherever it stands in it.
     pub fn remove<N: Node>(&mut self, nodes: &mut [N], i: u16)
-        requires sound { Sound after before nodes.old self.old }
-        requires stands { In i (members after nodes.old self.old) }
-        ensures { Removed after before bare nodes.old nodes.new self.old self.new i }
+        requires sound { Sound N.after N.before nodes.old self.old }
+        requires stands { In i (members N.after nodes.old self.old) }
+        ensures { Removed N.after N.before N.bare nodes.old nodes.new self.old self.new i }
     {
         let beside = neighbours_of(nodes, i);
         self.unlink(nodes, beside.prev, i, beside.next);
@@ -63,8 +63,8 @@ impl LinkedList {
 
     /// Lets the first record of the list go, if there is one.
     fn drop_front<N: Node>(&mut self, nodes: &mut [N])
-        requires { Sound after before nodes.old self.old }
-        ensures { Popped after before bare nodes.old nodes.new self.old self.new self.old.front }
+        requires { Sound N.after N.before nodes.old self.old }
+        ensures { Popped N.after N.before N.bare nodes.old nodes.new self.old self.new self.old.front }
     {
         if let Some(i) = self.front {
             self.remove(nodes, i);
@@ -78,7 +78,7 @@ impl LinkedList {
         requires prev { Within prev (length nodes.old) }
         requires next { Within next (length nodes.old) }
         requires room { self.old.count + 1 < 2 ^ 64 }
-        ensures links { Rewired after before bare nodes.old nodes.new self.old self.new prev next (Just i) (Just i) i prev next }
+        ensures links { Rewired N.after N.before N.bare nodes.old nodes.new self.old self.new prev next (Just i) (Just i) i prev next }
         ensures count { self.new.count ≡ self.old.count + 1 }
     {
         self.set_next(nodes, prev, Some(i));
@@ -94,7 +94,7 @@ impl LinkedList {
         requires prev { Within prev (length nodes.old) }
         requires next { Within next (length nodes.old) }
         requires some { 0 < self.old.count }
-        ensures links { Rewired after before bare nodes.old nodes.new self.old self.new prev next next prev i Nothing Nothing }
+        ensures links { Rewired N.after N.before N.bare nodes.old nodes.new self.old self.new prev next next prev i Nothing Nothing }
         ensures count { self.new.count ≡ self.old.count - 1 }
     {
         self.set_next(nodes, prev, next);
@@ -107,7 +107,7 @@ impl LinkedList {
     /// Lets `to` come after the place `at`.
     fn set_next<N: Node>(&mut self, nodes: &mut [N], at: Option<u16>, to: Option<u16>)
         requires { Within at (length nodes.old) }
-        ensures nodes { Written after before bare nodes.old nodes.new at to }
+        ensures nodes { Written N.after N.before N.bare nodes.old nodes.new at to }
         ensures front { self.new.front ≡ end_with self.old.front at to }
         ensures back { self.new.back ≡ self.old.back }
         ensures count { self.new.count ≡ self.old.count }
@@ -121,7 +121,7 @@ impl LinkedList {
     /// Lets `to` come before the place `at`.
     fn set_prev<N: Node>(&mut self, nodes: &mut [N], at: Option<u16>, to: Option<u16>)
         requires { Within at (length nodes.old) }
-        ensures nodes { Written before after bare nodes.old nodes.new at to }
+        ensures nodes { Written N.before N.after N.bare nodes.old nodes.new at to }
         ensures front { self.new.front ≡ self.old.front }
         ensures back { self.new.back ≡ end_with self.old.back at to }
         ensures count { self.new.count ≡ self.old.count }

@@ -53,9 +53,9 @@ pub(crate) struct Neighbours {
 /// The neighbours of the record `i`, in whichever list it stands.
 pub(crate) fn neighbours_of<N: Node>(nodes: &[N], i: u16) -> Neighbours
     requires { i < length nodes.now }
-    ensures prev { result.prev ≡ slice_index_or (map before nodes.now) i Nothing }
-    ensures next { result.next ≡ slice_index_or (map after nodes.now) i Nothing }
-    ensures walk { Follows after before nodes.now i result.next }
+    ensures prev { result.prev ≡ slice_index_or (map N.before nodes.now) i Nothing }
+    ensures next { result.next ≡ slice_index_or (map N.after nodes.now) i Nothing }
+    ensures walk { Follows N.after N.before nodes.now i result.next }
 {
     let node = &nodes[i as usize];
     Neighbours {
@@ -68,8 +68,8 @@ pub(crate) fn neighbours_of<N: Node>(nodes: &[N], i: u16) -> Neighbours
 /// a walk along a list.
 pub fn next_of<N: Node>(nodes: &[N], i: u16) -> Option<u16>
     requires { i < length nodes.now }
-    ensures link { result ≡ slice_index_or (map after nodes.now) i Nothing }
-    ensures walk { Follows after before nodes.now i result }
+    ensures link { result ≡ slice_index_or (map N.after nodes.now) i Nothing }
+    ensures walk { Follows N.after N.before nodes.now i result }
 {
     neighbours_of(nodes, i).next
 }

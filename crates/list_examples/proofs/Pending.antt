@@ -7,7 +7,7 @@ use Rattle.list.specs.declared.linked_list.LinkedList.{LinkedList}
 use Rattle.list.specs.Numbers.{NotIn}
 use Rattle.list.specs.Lists.{members}
 use Rattle.list.proofs.Counting.{one}
-use Rattle.list.proofs.Leaving.{field-kept}
+use Rattle.list.proofs.Leaving.{field_kept}
 use Rattle.list_examples.specs.declared.write.Write.{Write}
 use Rattle.list_examples.specs.Kinds.{write_after, bare_write}
 use Rattle.list_examples.specs.Settings.{setting_of, pending}
@@ -24,7 +24,7 @@ one_more n xs xs' e e' =
 
 -- writes that are what they were but for their links set what they set
 pub settings_kept : (ws ws' : List Write) → map bare_write ws' ≡ map bare_write ws → map setting_of ws' ≡ map setting_of ws
-settings_kept ws ws' e = field-kept bare_write setting_of (λ w. refl) ws ws' e
+settings_kept ws ws' e = field_kept bare_write setting_of (λ w. refl) ws ws' e
 
 -- if all writes wait in their order, so do all settings
 pub all_pending : (ws ws' : List Write) (list : LinkedList) (n : ℕ) → length ws ≡ n → map bare_write ws' ≡ map bare_write ws → members write_after ws' list ≡ range_with_len 0 n

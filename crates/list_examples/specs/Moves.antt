@@ -8,10 +8,10 @@ use Rattle.list.specs.Changes.{Leaves}
 -- The first record of a list was put at the end of another, and r is its number; r is none where there was none.
 pub record Moved {N : Type 0} (after before : N → Option ℕ) (bare : N → N) (ns ns' : List N) (from from' to to' : LinkedList) (r : Option ℕ) : Type 0 where
   pub front : r ≡ first (members after ns from)
-  pub from-sound : Sound after before ns' from'
-  pub from-holds : members after ns from ≡ listed r ++ members after ns' from'
-  pub to-sound : Sound after before ns' to'
-  pub to-holds : members after ns' to' ≡ members after ns to ++ listed r
+  pub from_sound : Sound after before ns' from'
+  pub from_holds : members after ns from ≡ listed r ++ members after ns' from'
+  pub to_sound : Sound after before ns' to'
+  pub to_holds : members after ns' to' ≡ members after ns to ++ listed r
   pub apart : Disjoint (members after ns' from') (members after ns' to')
   -- other records, other lists, and all but the links of these are as they were
   pub leaves : Leaves after before bare ns ns' (members after ns from ++ members after ns to) (members after ns from ++ members after ns to)

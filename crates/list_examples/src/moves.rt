@@ -13,10 +13,10 @@ pub fn move_front<N: Node>(
     from: &mut LinkedList,
     to: &mut LinkedList,
 ) -> Option<u16>
-    requires from { Sound after before nodes.old from.old }
-    requires to { Sound after before nodes.old to.old }
-    requires apart { Disjoint (members after nodes.old from.old) (members after nodes.old to.old) }
-    ensures { Moved after before bare nodes.old nodes.new from.old from.new to.old to.new result }
+    requires from { Sound N.after N.before nodes.old from.old }
+    requires to { Sound N.after N.before nodes.old to.old }
+    requires apart { Disjoint (members N.after nodes.old from.old) (members N.after nodes.old to.old) }
+    ensures { Moved N.after N.before N.bare nodes.old nodes.new from.old from.new to.old to.new result }
 {
     let Some(i) = from.pop_front(nodes) else {
         return None;

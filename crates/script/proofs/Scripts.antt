@@ -30,14 +30,14 @@ module _ (script : List ℕ) (short : length script ≤ 32768) (s : Lines) (new 
   heads : head_rows (length (lines script)) (rows 1 0 (lines script)) ≡ head_rows (length (lines s.script.now)) (rows_left s)
   heads = let same = new.same in let first = new.first in sym (λ i. head_rows (length (lines (same i))) (first i))
 
-  pub head-fails : (f : Failure) → head_rows (length (lines s.script.now)) (rows_left s) ≡ Err f → read_script script ≡ Err f
-  head-fails f e = whole script short ∙ ap (λ r. next r (λ h. next (call_rows h.1) (λ cs. Ok (h.0, cs)))) (heads ∙ e)
+  pub head_fails : (f : Failure) → head_rows (length (lines s.script.now)) (rows_left s) ≡ Err f → read_script script ≡ Err f
+  head_fails f e = whole script short ∙ ap (λ r. next r (λ h. next (call_rows h.1) (λ cs. Ok (h.0, cs)))) (heads ∙ e)
 
   found : (h : Head) (t : Lines) → HeadFound s h t → read_script script ≡ next (call_rows (rows_left t)) (λ cs. Ok (h, cs))
   found h t e = whole script short ∙ ap (λ r. next r (λ x. next (call_rows x.1) (λ cs. Ok (x.0, cs)))) (heads ∙ e.head)
 
-  pub calls-fail : (h : Head) (t : Lines) (f : Failure) → HeadFound s h t → call_rows (rows_left t) ≡ Err f → read_script script ≡ Err f
-  calls-fail h t f e g = found h t e ∙ ap (λ r. next r (λ cs. Ok (h, cs))) g
+  pub calls_fail : (h : Head) (t : Lines) (f : Failure) → HeadFound s h t → call_rows (rows_left t) ≡ Err f → read_script script ≡ Err f
+  calls_fail h t f e g = found h t e ∙ ap (λ r. next r (λ cs. Ok (h, cs))) g
 
   -- the calls behind the head are those that the script has
   calls_are : (h : Head) (t : Lines) → HeadFound s h t → good_calls (rows_left t) ≡ calls_of script

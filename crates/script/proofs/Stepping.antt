@@ -22,8 +22,8 @@ abbrev rest : List ℕ → ℕ → List ℕ
 rest script at = take (length script - at) (drop at script)
 
 module _ (script : List ℕ) (at n : ℕ) (some : at < length script) (is : n ≡ place 10 (rest script at)) (in_rest : n ≤ length (rest script at)) where
-  is-drop : n ≡ place 10 (drop at script)
-  is-drop = is ∙ ap (place 10) (take_rest script at)
+  is_drop : n ≡ place 10 (drop at script)
+  is_drop = is ∙ ap (place 10) (take_rest script at)
 
   front : take (n - 0) (rest script at) ≡ take n (drop at script)
   front =
@@ -37,11 +37,11 @@ module _ (script : List ℕ) (at n : ℕ) (some : at < length script) (is : n �
   long : length (take (n - 0) (rest script at)) ≡ n
   long = ap length front ∙ length-take-le n (drop at script) fits
 
-  step-more : at + n < length script → Step script at (at + n + 1) (take (n - 0) (rest script at))
-  step-more h =
+  step_more : at + n < length script → Step script at (at + n + 1) (take (n - 0) (rest script at))
+  step_more h =
       let w = drop at script in
       let size = length-drop at script in
-      let s : lines w ≡ take n w ∷ lines (drop (n + 1) w) = subst (λ k. lines w ≡ take k w ∷ lines (drop (k + 1) w)) (sym is-drop) (parts_at 10 [] w (omega (arith, is-drop))) in
+      let s : lines w ≡ take n w ∷ lines (drop (n + 1) w) = subst (λ k. lines w ≡ take k w ∷ lines (drop (k + 1) w)) (sym is_drop) (parts_at 10 [] w (omega (arith, is_drop))) in
       let on : at + (n + 1) ≡ at + n + 1 = omega arith in
       record {
         head = s ∙ ap (λ l. take n w ∷ lines l) (drop-drop (n + 1) at script ∙ ap (λ k. drop k script) on) ∙ ap (λ l. l ∷ lines (drop (at + n + 1) script)) (sym front);
@@ -51,13 +51,13 @@ module _ (script : List ℕ) (at n : ℕ) (some : at < length script) (is : n �
         row = λ m. ap (λ k. rows m (at + k + 1) (lines (drop (at + n + 1) script))) long;
       }
 
-  step-last : length script ≤ at + n → Step script at (at + n) (take (n - 0) (rest script at))
-  step-last h =
+  step_last : length script ≤ at + n → Step script at (at + n) (take (n - 0) (rest script at))
+  step_last h =
       let w = drop at script in
       let size = length-drop at script in
       let none : lines (drop (at + n) script) ≡ [] = ap lines (drop_all (at + n) script h) in
       record {
-        head = lines_last w (omega arith) (omega (arith, is-drop)) ∙ ap (λ l. l ∷ []) (sym (front ∙ take_all n w (omega arith))) ∙ ap (λ ls. take (n - 0) (rest script at) ∷ ls) (sym none);
+        head = lines_last w (omega arith) (omega (arith, is_drop)) ∙ ap (λ l. l ∷ []) (sym (front ∙ take_all n w (omega arith))) ∙ ap (λ ls. take (n - 0) (rest script at) ∷ ls) (sym none);
         on = omega arith;
         within = omega (arith, fits);
         ends = omega (arith, long, fits);
@@ -69,8 +69,8 @@ module _ (script : List ℕ) (at n : ℕ) (some : at < length script) (is : n �
   stepped to e =
       let by : (m : ℕ) → to ≡ m → Step script at m (take (n - 0) (rest script at)) → Step script at to (take (n - 0) (rest script at)) = λ m same s. subst (λ k. Step script at k (take (n - 0) (rest script at))) (sym same) s in
       ⊎_elim
-      (λ more. by (at + n + 1) (omega arith) (step-more more))
-      (λ last. by (at + n) (omega (arith, fits, length-drop at script)) (step-last last))
+      (λ more. by (at + n + 1) (omega arith) (step_more more))
+      (λ last. by (at + n) (omega (arith, fits, length-drop at script)) (step_last last))
       (cases_lt (at + n) (length script))
 
 -- the same step by rows

@@ -2,7 +2,7 @@ use Rattle.std.proofs.Common.{◌∙◌}
 use Rattle.list.specs.Lists.{members}
 use Rattle.list.proofs.Splitting.{split}
 use Rattle.list.proofs.Writing.{read}
-use Rattle.list.proofs.Holding.{following-is}
+use Rattle.list.proofs.Holding.{following_is}
 use Rattle.list.proofs.node.neighbours_of.Goals as goal
 
 pub returns : goal.returns
@@ -15,5 +15,5 @@ returns g c =
     record {
       prev = read m.before ns i x.result c.prev.result c.requires x.is c.prev.ensures;
       next = next;
-      walk = λ list s t. next ∙ following-is s (split i (members m.after ns list) t);
+      walk = λ list s t. next ∙ following_is s (split i (members m.after ns list) t);
     }

@@ -2,13 +2,13 @@ use Rattle.std.proofs.Common.{arith}
 use Rattle.list_examples.proofs.Moving.{inside, stays, new, moved}
 use Rattle.list_examples.proofs.moves.move_front.Goals as goal
 
-pub push-back-requires : goal.push-back-requires
-push-back-requires g c =
+pub push_back-requires : goal.push_back-requires
+push_back-requires g c =
     let m = g.N.Node in
     let ns = c.args.nodes.now in
-    let ns₁ = c.pop-front.new.nodes in
+    let ns₁ = c.pop_front.new.nodes in
     let from = c.args.from.now in
-    let from₁ = c.pop-front.new.self in
+    let from₁ = c.pop_front.new.self in
     let to = c.args.to.now in
     let i = c.in-Some.i in
     let h = c.requires in
@@ -23,5 +23,5 @@ pub returns : goal.returns
 returns g c =
     let m = g.N.Node in
     let h = c.requires in
-    moved m.after m.before m.bare c.args.nodes.now c.pop-front.new.nodes c.args.from.now c.pop-front.new.self c.args.to.now c.in-Some.i
-    h.from h.to h.apart c.in-Some.ensures c.push-back.new.nodes c.push-back.new.self (omega arith) c.push-back.ensures
+    moved m.after m.before m.bare c.args.nodes.now c.pop_front.new.nodes c.args.from.now c.pop_front.new.self c.args.to.now c.in-Some.i
+    h.from h.to h.apart c.in-Some.ensures c.push_back.new.nodes c.push_back.new.self (omega arith) c.push_back.ensures

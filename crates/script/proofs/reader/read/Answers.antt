@@ -4,7 +4,7 @@ use Rattle.rules.specs.declared.fault.FaultKind.TheVariants.{ScriptTooLong}
 use Rattle.script.specs.declared.fault.Fault.{Fault}
 use Rattle.script.specs.declared.lines.Outline.{Outline}
 use Rattle.script.specs.Outcome.{Outcome}
-use Rattle.script.proofs.Scripts.{too_long_lem, head-fails, calls-fail, all_read, grammatical, part_stands}
+use Rattle.script.proofs.Scripts.{too_long_lem, head_fails, calls_fail, all_read, grammatical, part_stands}
 use Rattle.script.proofs.reader.read.Goals as goal
 
 pub returns-then-script-gt-MAX_SCRIPT : goal.returns-then-script-gt-MAX_SCRIPT
@@ -19,7 +19,7 @@ returns-in_err-head c =
     let script = c.args.script.now in
     let r = c.from_residual.result in
     let p = err_from_is_err_and r c.from_residual.ensures.1 in
-    let e : Outcome script r = rw (p.1, p.2) (head-fails script (omega arith) _ c.new-lines.ensures _ c.in_err-head.ensures) in
+    let e : Outcome script r = rw (p.1, p.2) (head_fails script (omega arith) _ c.new-lines.ensures _ c.in_err-head.ensures) in
     record { outcome = e; grammar = grammatical script r e; part = part_stands script r e }
 
 pub returns-in_err-check_calls : goal.returns-in_err-check_calls
@@ -27,7 +27,7 @@ returns-in_err-check_calls c =
     let script = c.args.script.now in
     let r = c.from_residual-in_err-check_calls.result in
     let p = err_from_is_err_and r c.from_residual-in_err-check_calls.ensures.1 in
-    let e : Outcome script r = rw (p.1, p.2) (calls-fail script (omega arith) _ c.new-lines.ensures _ _ _ c.in_ok-head.ensures c.in_err-check_calls.ensures) in
+    let e : Outcome script r = rw (p.1, p.2) (calls_fail script (omega arith) _ c.new-lines.ensures _ _ _ c.in_ok-head.ensures c.in_err-check_calls.ensures) in
     record { outcome = e; grammar = grammatical script r e; part = part_stands script r e }
 
 pub returns : goal.returns

@@ -1,14 +1,14 @@
 use Rattle.std.proofs.Common.{sym, ◌∙◌}
 use Rattle.list.specs.Lists.{members}
 use Rattle.list.proofs.Splitting.{in_front}
-use Rattle.list.proofs.Holding.{front-is}
+use Rattle.list.proofs.Holding.{front_is}
 use Rattle.list.proofs.Moving.{popped}
 use Rattle.list.proofs.linked_list.LinkedList.drop_front.Goals as goal
 
 pub remove-requires : goal.remove-requires
 remove-requires g c = record {
   sound = c.requires;
-  stands = (in_front c.in-Some.i (members g.N.Node.after c.args.nodes.now c.args.self.now) (sym (front-is c.requires) ∙ c.in-Some.is)).0;
+  stands = (in_front c.in-Some.i (members g.N.Node.after c.args.nodes.now c.args.self.now) (sym (front_is c.requires) ∙ c.in-Some.is)).0;
 }
 
 pub returns-in-Some : goal.returns-in-Some

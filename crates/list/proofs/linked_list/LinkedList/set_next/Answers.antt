@@ -5,9 +5,9 @@ use Rattle.list.proofs.linked_list.LinkedList.set_next.Goals as goal
 pub returns-in-Some : goal.returns-in-Some
 returns-in-Some g c =
     let m = g.N.Node in
-    let e = c.set-next.ensures in
+    let e = c.set_next.ensures in
     record {
-      nodes = written m.after m.before m.bare c.args.nodes.now c.in-Some.i c.index-nodes-i.result c.set-next.new.self c.args.at c.args.to c.in-Some.is e.link e.other e.rest;
+      nodes = written m.after m.before m.bare c.args.nodes.now c.in-Some.i c.index-nodes-i.result c.set_next.new.self c.args.at c.args.to c.in-Some.is e.link e.other e.rest;
       front = search rules;
       back = search rules;
       count = search rules;

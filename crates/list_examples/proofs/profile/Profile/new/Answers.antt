@@ -6,8 +6,8 @@ use Rattle.list_examples.specs.Kinds.{write_after, bare_write}
 use Rattle.list_examples.proofs.Pending.{beyond, one_more, all_pending}
 use Rattle.list_examples.proofs.profile.Profile.new.Goals as goal
 
-pub push-back-requires : goal.push-back-requires
-push-back-requires c =
+pub push_back-requires : goal.push_back-requires
+push_back-requires c =
     let inv = c.loop-i.invariant in
     let i = c.loop-i.i in
     record { inside = omega (arith, inv.0); sound = inv.1; new = ap (times i) inv.2 ∙ beyond i 0 i (omega arith) }
@@ -16,13 +16,13 @@ pub loop-i-preserved : goal.loop-i-preserved
 loop-i-preserved c =
     let inv = c.loop-i.invariant in
     let i = c.loop-i.i in
-    let e = c.push-back.ensures in
+    let e = c.push_back.ensures in
     let xs = members write_after c.loop-i.writes c.loop-i.waiting in
-    let xs' = members write_after c.push-back.new.nodes c.push-back.new.self in
-    (omega (arith, inv.0, c.push-back.auto.nodes), e.sound, one_more i xs xs' inv.2 e.holds, e.leaves.fields ∙ inv.3)
+    let xs' = members write_after c.push_back.new.nodes c.push_back.new.self in
+    (omega (arith, inv.0, c.push_back.auto.nodes), e.sound, one_more i xs xs' inv.2 e.holds, e.leaves.fields ∙ inv.3)
 
 pub invariant_of-result : goal.invariant_of-result
-invariant_of-result c = (∣ c.loop-i.invariant.1 ∣₁, tt)
+invariant_of-result c = record { sound = ∣ c.loop-i.invariant.1 ∣₁ }
 
 pub returns : goal.returns
 returns c =
