@@ -24,7 +24,6 @@ spells_step false spelling u v w rest here there e = there e
 
 -- a word that names a value is the word of that value
 spells : {V : Type 0} (spelling : V → List ℕ) (vs : List V) (w : List ℕ) (v : V) → first_named spelling vs w ≡ Some v → w ≡ spelling v
-unfolding first_named
 spells spelling [] w v e = let z : ◌≡◌ {A = ℕ} 0 1 = cc in absurd (omega arith)
 spells spelling (u ∷ us) w v e =
     spells_step (bytes_eq w (spelling u)) spelling u v w (first_named spelling us w) (bytes_eq-Decides w (spelling u)).0 (spells spelling us w v) e
@@ -49,7 +48,6 @@ word {w = w} e h = record { names = e; lacks = lacks_from 32 w h }
 
 -- the word of a verb, of a policy and of a store
 pub verb_word : (v : Verb) → Word verb_named (verb_text v) v
-unfolding first_named
 verb_word Queue = word refl refl
 verb_word Delay = word refl refl
 verb_word Advance = word refl refl
@@ -64,13 +62,11 @@ verb_word Collect = word refl refl
 verb_word Close = word refl refl
 
 pub policy_word : (v : PolicyName) → Word policy_named (policy_text v) v
-unfolding first_named
 policy_word Free = word refl refl
 policy_word Percpu = word refl refl
 policy_word Ranked = word refl refl
 
 pub store_word : (v : StoreName) → Word store_named (store_text v) v
-unfolding first_named
 store_word Heap = word refl refl
 store_word Wheel = word refl refl
 

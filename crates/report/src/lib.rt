@@ -21,8 +21,8 @@ use std::alloc::{AllocError, Global};
 fn fault_report(heap: Global, fault: Fault) -> Result<String, AllocError>
     ensures { IfOk result (λ t. string_bytes t ≡ fault_report (failure_of fault.entry)) }
 {
-    let word = Word::Fault.text();
-    let number = fault.kind.number();
+    let word = Word::Fault;
+    let number = u8::from(fault.kind);
     let line = fault.line;
     format!(in heap; "{word} {number} line {line}\n")
 }
@@ -42,9 +42,9 @@ fn head_report(heap: Global, head: Head) -> Result<String, AllocError>
     ensures { IfOk result (λ t. string_bytes t ≡ head_report head) }
 {
     let sizes = sizes_report(heap, head.sizes)?;
-    let policy = head.policy.text();
+    let policy = head.policy;
     let cap = head.cap;
-    let store = head.store.text();
+    let store = head.store;
     format!(in heap; "{sizes}policy {policy}\ncap {cap}\nstore {store}\n")
 }
 
@@ -54,7 +54,7 @@ fn tally(mut calls: Calls) -> [u32; 12]
 {
     let mut counts = [0; 12];
     while let Some(next) = calls.next_call() {
-        counts[next.call.verb().index()] += 1;
+        counts[usize::from(next.call.verb())] += 1;
     }
     counts
 }
@@ -66,9 +66,8 @@ fn calls_report(heap: Global, calls: Calls) -> Result<String, AllocError>
     let counts = tally(calls);
     let mut text = String::new(heap);
     for verb in Verb::ALL {
-        let name = verb.text();
-        let count = counts[verb.index()];
-        let line = format!(in heap; "{name} {count}\n")?;
+        let count = counts[usize::from(verb)];
+        let line = format!(in heap; "{verb} {count}\n")?;
         text.push_str(line.as_str())?;
     }
     Ok(text)

@@ -134,18 +134,26 @@ policy_text policy.Free = codes "free"
 policy_text policy.Percpu = codes "percpu"
 policy_text policy.Ranked = codes "ranked"
 
+-- the policies
+abbrev pub policies : List PolicyName
+policies = policy.Free ∷ policy.Percpu ∷ policy.Ranked ∷ []
+
 -- the policy that a word names
 abbrev pub policy_named : List ℕ → Option PolicyName
-policy_named w = first_named policy_text (policy.Free ∷ policy.Percpu ∷ policy.Ranked ∷ []) w
+policy_named w = first_named policy_text policies w
 
 -- the name of a delay store
 abbrev pub store_text : StoreName → List ℕ
 store_text store.Heap = codes "heap"
 store_text store.Wheel = codes "wheel"
 
+-- the delay stores
+abbrev pub stores : List StoreName
+stores = store.Heap ∷ store.Wheel ∷ []
+
 -- the delay store that a word names
 abbrev pub store_named : List ℕ → Option StoreName
-store_named w = first_named store_text (store.Heap ∷ store.Wheel ∷ []) w
+store_named w = first_named store_text stores w
 
 -- the other words of a report
 abbrev pub word_text : Word → List ℕ

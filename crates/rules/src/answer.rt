@@ -5,7 +5,7 @@ ghost use Rattle.rules.specs.Format.{line_word, waited_word, promise_word};
 use crate::word::Word;
 
 /// The line of a pool that a work entered.
-#[derive(Clone, Copy)]
+#[derive(Clone, Copy, Debug, PartialEq, Eq)]
 pub enum Line {
     /// The line of works that the pool's limit keeps back.
     Held,
@@ -14,7 +14,7 @@ pub enum Line {
 }
 
 /// What a cancelled work was waiting as.
-#[derive(Clone, Copy)]
+#[derive(Clone, Copy, Debug, PartialEq, Eq)]
 pub enum Waited {
     /// It waited for its due tick.
     Delayed,
@@ -25,7 +25,7 @@ pub enum Waited {
 }
 
 /// What a flush says of its ticket.
-#[derive(Clone, Copy)]
+#[derive(Clone, Copy, Debug, PartialEq, Eq)]
 pub enum Promise {
     /// The ticket can be collected.
     Ready,
@@ -34,7 +34,7 @@ pub enum Promise {
 }
 
 /// The answer of an accepted call.
-#[derive(Clone, Copy)]
+#[derive(Clone, Copy, Debug, PartialEq, Eq)]
 pub enum Answer {
     /// Of queue, and of delay with 0 ticks: the pool and the line that the work entered.
     Entered { pool: u32, line: Line },
@@ -62,24 +62,24 @@ pub enum Answer {
     Closed,
 }
 
-impl Line {
-    /// The word that names the line.
-    pub fn word(self) -> Word
-        ensures { result ≡ line_word self }
-    {
-        match self {
+/// The word that names the line.
+impl From<Line> for Word {
+    ghost from_gives = { λ line word. word ≡ line_word line };
+
+    fn from(line: Line) -> Word {
+        match line {
             Line::Held => Word::Held,
             Line::Queued => Word::Queued,
         }
     }
 }
 
-impl Waited {
-    /// The word that names what the work was.
-    pub fn word(self) -> Word
-        ensures { result ≡ waited_word self }
-    {
-        match self {
+/// The word that names what the work was.
+impl From<Waited> for Word {
+    ghost from_gives = { λ waited word. word ≡ waited_word waited };
+
+    fn from(waited: Waited) -> Word {
+        match waited {
             Waited::Delayed => Word::Delayed,
             Waited::Held => Word::Held,
             Waited::Queued => Word::Queued,
@@ -87,12 +87,12 @@ impl Waited {
     }
 }
 
-impl Promise {
-    /// The word that names the promise.
-    pub fn word(self) -> Word
-        ensures { result ≡ promise_word self }
-    {
-        match self {
+/// The word that names the promise.
+impl From<Promise> for Word {
+    ghost from_gives = { λ promise word. word ≡ promise_word promise };
+
+    fn from(promise: Promise) -> Word {
+        match promise {
             Promise::Ready => Word::Ready,
             Promise::Waiting => Word::Waiting,
         }

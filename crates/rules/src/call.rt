@@ -1,11 +1,13 @@
 //! The twelve calls and their verbs.
-ghost use Rattle.std.specs.Prelude.{◌≡◌};
-ghost use Rattle.rules.specs.Format.{verb_text, verb_index, verb_named, verb_of};
+ghost use Rattle.std.specs.Prelude.{◌≡◌, Some as Just};
+ghost use Rattle.std.proofs.Common.{rules};
+ghost use Rattle.rules.specs.Format.{verb_index, verb_of, verb_text, verbs};
 
-use crate::named::{Named, find_named};
+use crate::named::{Named, Spelled};
+use std::fmt;
 
 /// The verb of a call, as a script writes it.
-#[derive(Clone, Copy)]
+#[derive(Clone, Copy, Debug, PartialEq, Eq)]
 pub enum Verb {
     Queue,
     Delay,
@@ -23,7 +25,7 @@ pub enum Verb {
 
 /// A call with its numbers. Any numbers can be written down: a call that does not fit is refused
 /// when it is made.
-#[derive(Clone, Copy)]
+#[derive(Clone, Copy, Debug, PartialEq, Eq)]
 pub enum Call {
     /// A work enters a pool.
     Queue { work: u32, pool: u32 },
@@ -67,25 +69,21 @@ impl Verb {
         Verb::Collect,
         Verb::Close,
     ];
+}
 
-    /// The verb that a word names, if it names one.
-    pub fn named(word: &[u8]) -> Option<Verb>
-        ensures { result ≡ verb_named word.now }
-    {
-        find_named(&Verb::ALL, word)
+/// The place of the verb among the twelve.
+impl From<Verb> for usize {
+    ghost from_gives = { λ verb n. n ≡ verb_index verb };
+
+    fn from(verb: Verb) -> usize {
+        verb as usize
     }
+}
 
-    /// The place of the verb among the twelve.
-    pub fn index(self) -> usize
-        ensures { result ≡ verb_index self }
-    {
-        self as usize
-    }
+impl Spelled for Verb {
+    ghost spelling = { verb_text };
 
-    /// The word that a script and a report have for the verb.
-    pub fn text(self) -> &'static str
-        ensures { result.now ≡ verb_text self }
-    {
+    fn text(self) -> &'static str {
         match self {
             Verb::Queue => "queue",
             Verb::Delay => "delay",
@@ -103,12 +101,21 @@ impl Verb {
     }
 }
 
-/// A verb is written by its word.
-impl Named for Verb {
-    ghost spelling = { verb_text };
+impl fmt::Display for Verb {
+    ghost output = { λ verb. Just (verb_text verb) };
 
-    fn word(self) -> &'static str {
-        self.text()
+    fn fmt<W: fmt::Write>(&self, f: &mut fmt::Formatter<W>) -> fmt::Result {
+        f.write_str(Verb::text(*self))
+    }
+}
+
+impl Named for Verb {
+    ghost values = { verbs };
+
+    ghost read_back = { Prim.search rules };
+
+    fn all() -> &'static [Verb] {
+        &Verb::ALL
     }
 }
 

@@ -1,11 +1,12 @@
 //! What can be wrong with a script, and with the buffer that its report is written to.
 ghost use Rattle.std.specs.Prelude.{◌≡◌};
+ghost use Rattle.rules.specs.declared.fault.FaultKind.TheVariants.{Refused};
 ghost use Rattle.rules.specs.Format.{fault_number};
 
 use crate::refusal::Refusal;
 
 /// The kind of a fault. Each has a number, by which reports name it.
-#[derive(Clone, Copy)]
+#[derive(Clone, Copy, Debug, PartialEq, Eq)]
 pub enum FaultKind {
     /// The script is longer than a script may be.
     ScriptTooLong,
@@ -23,19 +24,28 @@ pub enum FaultKind {
     Refused(Refusal),
 }
 
-impl FaultKind {
-    /// The number of the fault. One that carries a refusal has the refusal's number.
-    pub fn number(self) -> u8
-        ensures { result ≡ fault_number self }
-    {
-        match self {
+/// The engine that the head asks for is refused.
+impl From<Refusal> for FaultKind {
+    ghost from_gives = { λ refusal kind. kind ≡ Refused refusal };
+
+    fn from(refusal: Refusal) -> FaultKind {
+        FaultKind::Refused(refusal)
+    }
+}
+
+/// The number of the fault. One that carries a refusal has the refusal's number.
+impl From<FaultKind> for u8 {
+    ghost from_gives = { λ kind n. n ≡ fault_number kind };
+
+    fn from(kind: FaultKind) -> u8 {
+        match kind {
             FaultKind::ScriptTooLong => 31,
             FaultKind::LineTooLong => 32,
             FaultKind::UnknownVerb => 33,
             FaultKind::WordCount => 34,
             FaultKind::BadWord => 35,
             FaultKind::BufferFull => 36,
-            FaultKind::Refused(refusal) => refusal.number(),
+            FaultKind::Refused(inner) => u8::from(inner),
         }
     }
 }

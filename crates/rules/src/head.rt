@@ -1,12 +1,13 @@
 //! The words of the head of a script.
-ghost use Rattle.std.specs.Prelude.{◌≡◌};
-ghost use Rattle.std.specs.Str.{bytes_eq};
-ghost use Rattle.rules.specs.Format.{head_text, policy_text, policy_named, store_text, store_named};
+ghost use Rattle.std.specs.Prelude.{Some as Just};
+ghost use Rattle.std.proofs.Common.{rules};
+ghost use Rattle.rules.specs.Format.{head_text, policies, policy_text, store_text, stores};
 
-use crate::named::{Named, find_named, names};
+use crate::named::{Named, Spelled};
+use std::fmt;
 
 /// The verb of a line of the head.
-#[derive(Clone, Copy)]
+#[derive(Clone, Copy, Debug, PartialEq, Eq)]
 pub enum HeadVerb {
     /// `engine W P F`: how many works, pools and ticket places.
     Engine,
@@ -17,7 +18,7 @@ pub enum HeadVerb {
 }
 
 /// A policy, by the name that a script gives it.
-#[derive(Clone, Copy)]
+#[derive(Clone, Copy, Debug, PartialEq, Eq)]
 pub enum PolicyName {
     /// `free`
     Free,
@@ -28,7 +29,7 @@ pub enum PolicyName {
 }
 
 /// A delay store, by the name that a script gives it.
-#[derive(Clone, Copy)]
+#[derive(Clone, Copy, Debug, PartialEq, Eq)]
 pub enum StoreName {
     /// `heap`
     Heap,
@@ -36,88 +37,81 @@ pub enum StoreName {
     Wheel,
 }
 
-impl HeadVerb {
-    /// The word that a script has for the verb.
-    pub fn text(self) -> &'static str
-        ensures { result.now ≡ head_text self }
-    {
+impl Spelled for HeadVerb {
+    ghost spelling = { head_text };
+
+    fn text(self) -> &'static str {
         match self {
             HeadVerb::Engine => "engine",
             HeadVerb::Policy => "policy",
             HeadVerb::Store => "store",
         }
     }
+}
 
-    /// Whether a word names the verb.
-    pub fn is_named(self, word: &[u8]) -> bool
-        ensures { result ≡ bytes_eq word.now (head_text self) }
-    {
-        names(word, self)
+impl fmt::Display for HeadVerb {
+    ghost output = { λ verb. Just (head_text verb) };
+
+    fn fmt<W: fmt::Write>(&self, f: &mut fmt::Formatter<W>) -> fmt::Result {
+        f.write_str(HeadVerb::text(*self))
     }
 }
 
-impl PolicyName {
-    /// The name as scripts and reports have it.
-    pub fn text(self) -> &'static str
-        ensures { result.now ≡ policy_text self }
-    {
+impl Spelled for PolicyName {
+    ghost spelling = { policy_text };
+
+    fn text(self) -> &'static str {
         match self {
             PolicyName::Free => "free",
             PolicyName::Percpu => "percpu",
             PolicyName::Ranked => "ranked",
         }
     }
+}
 
-    /// The policy that a word names, if it names one.
-    pub fn named(word: &[u8]) -> Option<PolicyName>
-        ensures { result ≡ policy_named word.now }
-    {
-        find_named(
-            &[PolicyName::Free, PolicyName::Percpu, PolicyName::Ranked],
-            word,
-        )
+impl fmt::Display for PolicyName {
+    ghost output = { λ name. Just (policy_text name) };
+
+    fn fmt<W: fmt::Write>(&self, f: &mut fmt::Formatter<W>) -> fmt::Result {
+        f.write_str(PolicyName::text(*self))
     }
 }
 
-impl StoreName {
-    /// The name as scripts and reports have it.
-    pub fn text(self) -> &'static str
-        ensures { result.now ≡ store_text self }
-    {
+impl Named for PolicyName {
+    ghost values = { policies };
+
+    ghost read_back = { Prim.search rules };
+
+    fn all() -> &'static [PolicyName] {
+        &[PolicyName::Free, PolicyName::Percpu, PolicyName::Ranked]
+    }
+}
+
+impl Spelled for StoreName {
+    ghost spelling = { store_text };
+
+    fn text(self) -> &'static str {
         match self {
             StoreName::Heap => "heap",
             StoreName::Wheel => "wheel",
         }
     }
-
-    /// The delay store that a word names, if it names one.
-    pub fn named(word: &[u8]) -> Option<StoreName>
-        ensures { result ≡ store_named word.now }
-    {
-        find_named(&[StoreName::Heap, StoreName::Wheel], word)
-    }
 }
 
-impl Named for HeadVerb {
-    ghost spelling = { head_text };
+impl fmt::Display for StoreName {
+    ghost output = { λ name. Just (store_text name) };
 
-    fn word(self) -> &'static str {
-        self.text()
-    }
-}
-
-impl Named for PolicyName {
-    ghost spelling = { policy_text };
-
-    fn word(self) -> &'static str {
-        self.text()
+    fn fmt<W: fmt::Write>(&self, f: &mut fmt::Formatter<W>) -> fmt::Result {
+        f.write_str(StoreName::text(*self))
     }
 }
 
 impl Named for StoreName {
-    ghost spelling = { store_text };
+    ghost values = { stores };
 
-    fn word(self) -> &'static str {
-        self.text()
+    ghost read_back = { Prim.search rules };
+
+    fn all() -> &'static [StoreName] {
+        &[StoreName::Heap, StoreName::Wheel]
     }
 }

@@ -6,7 +6,7 @@ pub mod answer;
 pub mod call;
 pub mod fault;
 pub mod head;
-mod named;
+pub mod named;
 pub mod refusal;
 pub mod sizes;
 pub mod word;

@@ -3,73 +3,53 @@ ghost use Rattle.std.specs.Prelude.{◌≡◌};
 ghost use Rattle.rules.specs.Format.{refusal_number};
 
 /// A refusal. Each has a number, by which reports name it.
-#[derive(Clone, Copy)]
+#[derive(Clone, Copy, Debug, PartialEq, Eq)]
 pub enum Refusal {
     /// The engine is shut.
-    Shut,
+    Shut = 1,
     /// The work's number is not below the number of works.
-    NoSuchWork,
+    NoSuchWork = 2,
     /// The pool's number is not below the number of pools.
-    NoSuchPool,
+    NoSuchPool = 3,
     /// The work's waiting part is not idle.
-    AlreadyWaiting,
+    AlreadyWaiting = 4,
     /// The due tick lies past the last tick of the clock.
-    DueTooLate,
+    DueTooLate = 5,
     /// The delay store is full.
-    StoreFull,
+    StoreFull = 6,
     /// The tick lies before the clock.
-    TickInPast,
+    TickInPast = 7,
     /// No queued work of the pool could start.
-    NothingToStart,
+    NothingToStart = 8,
     /// The policy does not permit a start.
-    NotPermitted,
+    NotPermitted = 9,
     /// The work is not awake.
-    NotAwake,
+    NotAwake = 10,
     /// The work is not asleep.
-    NotAsleep,
+    NotAsleep = 11,
     /// The work's waiting part is idle.
-    NotWaiting,
+    NotWaiting = 12,
     /// The limit is not 1 to 512.
-    LimitOutOfRange,
+    LimitOutOfRange = 13,
     /// No ticket place is free.
-    NoFreePlace,
+    NoFreePlace = 14,
     /// The place's number is not below the number of places, or no ticket is out there.
-    NoTicketOut,
+    NoTicketOut = 15,
     /// The ticket is not ready.
-    TicketNotReady,
+    TicketNotReady = 16,
     /// A work waits or runs, or a ticket is out.
-    StillBusy,
+    StillBusy = 17,
     /// At making: the number of works, pools or ticket places is out of its range.
-    SizeOutOfRange,
+    SizeOutOfRange = 18,
     /// At making: the cap is not 1 to 255.
-    CapOutOfRange,
+    CapOutOfRange = 19,
 }
 
-impl Refusal {
-    /// The number of the refusal.
-    pub fn number(self) -> u8
-        ensures { result ≡ refusal_number self }
-    {
-        match self {
-            Refusal::Shut => 1,
-            Refusal::NoSuchWork => 2,
-            Refusal::NoSuchPool => 3,
-            Refusal::AlreadyWaiting => 4,
-            Refusal::DueTooLate => 5,
-            Refusal::StoreFull => 6,
-            Refusal::TickInPast => 7,
-            Refusal::NothingToStart => 8,
-            Refusal::NotPermitted => 9,
-            Refusal::NotAwake => 10,
-            Refusal::NotAsleep => 11,
-            Refusal::NotWaiting => 12,
-            Refusal::LimitOutOfRange => 13,
-            Refusal::NoFreePlace => 14,
-            Refusal::NoTicketOut => 15,
-            Refusal::TicketNotReady => 16,
-            Refusal::StillBusy => 17,
-            Refusal::SizeOutOfRange => 18,
-            Refusal::CapOutOfRange => 19,
-        }
+/// The number of the refusal.
+impl From<Refusal> for u8 {
+    ghost from_gives = { λ refusal n. n ≡ refusal_number refusal };
+
+    fn from(refusal: Refusal) -> u8 {
+        refusal as u8
     }
 }

@@ -1,11 +1,11 @@
 //! The numbers with which an engine is made, and their ranges.
 ghost use Rattle.std.specs.Prelude.{◌≡◌};
-ghost use Rattle.rules.specs.Sizes.{sized, capped};
+ghost use Rattle.rules.specs.Sizes.{capped, sized, within};
 
 use crate::refusal::Refusal;
 
 /// How large an engine is.
-#[derive(Clone, Copy)]
+#[derive(Clone, Copy, Debug, PartialEq, Eq)]
 pub struct Sizes {
     /// How many works it has: 1 to 256.
     pub works: u32,
@@ -20,29 +20,32 @@ impl Sizes {
     pub fn new(works: u32, pools: u32, places: u32) -> Result<Sizes, Refusal>
         ensures { result ≡ sized works pools places }
     {
-        if works == 0 || works > 256 {
-            return Err(Refusal::SizeOutOfRange);
+        if is_within(works, 256) && is_within(pools, 8) && is_within(places, 64) {
+            Ok(Sizes {
+                works,
+                pools,
+                places,
+            })
+        } else {
+            Err(Refusal::SizeOutOfRange)
         }
-        if pools == 0 || pools > 8 {
-            return Err(Refusal::SizeOutOfRange);
-        }
-        if places == 0 || places > 64 {
-            return Err(Refusal::SizeOutOfRange);
-        }
-        Ok(Sizes {
-            works,
-            pools,
-            places,
-        })
     }
+}
+
+/// Whether a number lies in 1 to `most`.
+fn is_within(n: u32, most: u32) -> bool
+    ensures { result ≡ within 1 most n }
+{
+    (1..=most).contains(&n)
 }
 
 /// A number as the bound of a cap; refused where it is not 1 to 255.
 pub fn cap_bound(bound: u32) -> Result<u8, Refusal>
     ensures { result ≡ capped bound }
 {
-    if bound == 0 || bound > 255 {
-        return Err(Refusal::CapOutOfRange);
+    if is_within(bound, 255) {
+        Ok(bound as u8)
+    } else {
+        Err(Refusal::CapOutOfRange)
     }
-    Ok(bound as u8)
 }

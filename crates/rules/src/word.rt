@@ -1,9 +1,12 @@
 //! The words of reports other than verbs.
-ghost use Rattle.std.specs.Prelude.{◌≡◌};
+ghost use Rattle.std.specs.Prelude.{Some as Just};
 ghost use Rattle.rules.specs.Format.{word_text};
 
+use crate::named::Spelled;
+use std::fmt;
+
 /// A word of a report.
-#[derive(Clone, Copy)]
+#[derive(Clone, Copy, Debug, PartialEq, Eq)]
 pub enum Word {
     /// A waiting part: the work does not wait.
     Idle,
@@ -29,11 +32,10 @@ pub enum Word {
     Fault,
 }
 
-impl Word {
-    /// The word as reports have it.
-    pub fn text(self) -> &'static str
-        ensures { result.now ≡ word_text self }
-    {
+impl Spelled for Word {
+    ghost spelling = { word_text };
+
+    fn text(self) -> &'static str {
         match self {
             Word::Idle => "idle",
             Word::Delayed => "delayed",
@@ -47,5 +49,13 @@ impl Word {
             Word::End => "end",
             Word::Fault => "fault",
         }
+    }
+}
+
+impl fmt::Display for Word {
+    ghost output = { λ word. Just (word_text word) };
+
+    fn fmt<W: fmt::Write>(&self, f: &mut fmt::Formatter<W>) -> fmt::Result {
+        f.write_str(Word::text(*self))
     }
 }

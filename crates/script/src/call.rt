@@ -11,6 +11,7 @@ use crate::lines::WordLine;
 use crate::number::number;
 use crate::part::Part;
 use rules::call::{Call, Verb};
+use rules::named::Named;
 
 /// A line of the body: its verb, with as many words as the verb takes, in their order. The words are
 /// parts of the script, and not yet known to be numbers.

@@ -3,7 +3,7 @@ ghost use Rattle.std.specs.Prelude.{◌≡◌};
 ghost use Rattle.std.specs.Option.{ok_or};
 ghost use Rattle.grammar.specs.Heads.{engine_in, policy_in, store_in};
 ghost use Rattle.script.specs.Kept.{Worded};
-ghost use Rattle.rules.specs.Format.{policy_named, store_named};
+ghost use Rattle.rules.specs.Names.{first_named};
 ghost use Rattle.script.specs.HeadLines.{HeadRest};
 ghost use Rattle.script.specs.Parts.{piece_of, told_word, told_line};
 
@@ -13,6 +13,7 @@ use crate::lines::WordLine;
 use crate::number::number;
 use crate::part::Part;
 use rules::head::{HeadVerb, PolicyName, StoreName};
+use rules::named::{Named, Spelled};
 use rules::sizes::{Sizes, cap_bound};
 
 /// What stands behind the verb that is due on a line of the head.
@@ -26,24 +27,11 @@ fn head_rest<'a>(line: WordLine<'a>, verb: HeadVerb) -> Result<Option<Part<'a>>,
     }
 }
 
-/// The policy that a word names.
-fn policy_name<'a>(word: Part<'a>) -> Result<PolicyName, WordFault<'a>>
-    ensures { told_word result ≡ ok_or (policy_named word.entry.bytes.now) (piece_of word.entry) }
+/// The value that a word names.
+fn name<'a, T: Named>(word: Part<'a>) -> Result<T, WordFault<'a>>
+    ensures { told_word result ≡ ok_or (first_named T.spelling T.values word.entry.bytes.now) (piece_of word.entry) }
 {
-    match PolicyName::named(word.bytes) {
-        Some(name) => Ok(name),
-        None => Err(WordFault { word }),
-    }
-}
-
-/// The delay store that a word names.
-fn store_name<'a>(word: Part<'a>) -> Result<StoreName, WordFault<'a>>
-    ensures { told_word result ≡ ok_or (store_named word.entry.bytes.now) (piece_of word.entry) }
-{
-    match StoreName::named(word.bytes) {
-        Some(name) => Ok(name),
-        None => Err(WordFault { word }),
-    }
+    T::named(word.bytes).ok_or(WordFault { word })
 }
 
 /// `engine W P F`: how many works, pools and ticket places.
@@ -63,8 +51,8 @@ pub(crate) fn read_policy<'a>(line: WordLine<'a>) -> Result<(PolicyName, u8), Li
     ensures { told_line (piece_of line.entry.text) result ≡ policy_in (piece_of line.entry.text) }
 {
     let rest = head_rest(line, HeadVerb::Policy)?;
-    let (name, bound) = two_words(rest)?;
-    let policy = policy_name(name)?;
+    let (policy, bound) = two_words(rest)?;
+    let policy = name(policy)?;
     let cap = cap_bound(number(bound)?)?;
     Ok((policy, cap))
 }
@@ -75,6 +63,6 @@ pub(crate) fn read_store<'a>(line: WordLine<'a>) -> Result<StoreName, LineFault<
     ensures { told_line (piece_of line.entry.text) result ≡ store_in (piece_of line.entry.text) }
 {
     let rest = head_rest(line, HeadVerb::Store)?;
-    let store = store_name(one_word(rest)?)?;
+    let store = name(one_word(rest)?)?;
     Ok(store)
 }
