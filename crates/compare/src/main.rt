@@ -20,16 +20,9 @@ fn script_names(rt: &HostRuntime) -> io::Result<Vec<String>> {
 
 /// The place of the first byte in which two texts differ; none if they are the same.
 fn first_difference(a: &[u8], b: &[u8]) -> Option<usize> {
-    for (i, (x, y)) in a.iter().zip(b.iter()).enumerate() {
-        if *x != *y {
-            return Some(i);
-        }
-    }
-    if a.len() == b.len() {
-        None
-    } else {
-        Some(a.len().min(b.len()))
-    }
+    // where the shorter one ends, if they are not of one length
+    let end = (a.len() != b.len()).then_some(a.len().min(b.len()));
+    a.iter().zip(b).position(|(x, y)| x != y).or(end)
 }
 
 /// Whether the report on a script is what it must be; says where it is not.
@@ -51,7 +44,7 @@ fn main(rt: HostRuntime) -> io::Result<()> {
     let names = script_names(&rt)?;
     let total = names.len();
     let mut agreed: usize = 0;
-    for name in names.iter() {
+    for name in &names {
         if agrees(&rt, name.as_str())? {
             agreed = agreed.saturating_add(1);
         }

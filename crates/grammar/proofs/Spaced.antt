@@ -1,7 +1,8 @@
 -- The words of a line, with one space between each and the next.
-use Rattle.std.proofs.Common.{◌≡◌, ℕ, Bool, true, false, cond, eqb, List, [], ◌∷◌, sym, refl, ap, ◌∙◌}
-use Rattle.std.proofs.lemmas.Bool.{eqb-true}
-use Rattle.grammar.specs.Text.{grow, words}
+use Rattle.std.proofs.Common.{◌≡◌, ℕ, ◌+◌, ◌<◌, eqb, List, [], ◌∷◌, map, length, refl, ap, ◌∙◌, arith}
+use Rattle.std.proofs.lemmas.List.{length-map}
+use Rattle.std.proofs.lemmas.List.Splits.{join_with_byte-slice_split, length-slice_split}
+use Rattle.grammar.specs.Text.{Piece, words, pieces, words_in}
 use Rattle.grammar.specs.Grammar.{All, Lacks, spaced}
 use Rattle.grammar.proofs.Cuts.{parts_front, parts_last}
 
@@ -11,24 +12,31 @@ words-spaced w [] h hs = parts_last 32 w h
 words-spaced w (v ∷ vs) h hs =
     parts_front 32 ([] ∷ []) w (spaced (v ∷ vs)) h ∙ ap (λ ws. w ∷ ws) (words-spaced v vs hs.0 hs.1)
 
--- of some words, a byte goes in front of the line
-spaced-grow : (c : ℕ) (w : List ℕ) (ws : List (List ℕ)) → spaced (grow c (w ∷ ws)) ≡ c ∷ spaced (w ∷ ws)
-spaced-grow c w [] = refl
-spaced-grow c w (v ∷ vs) = refl
+-- the bytes of pieces
+abbrev pub texts : List Piece → List (List ℕ)
+texts ps = map (λ p. p.bytes) ps
 
--- a line is made of its words, of which there is one at least
-pub record Worded (l : List ℕ) (ws : List (List ℕ)) : Type 0 where
-  pub first : List ℕ
-  pub rest : List (List ℕ)
-  pub are : ws ≡ first ∷ rest
-  pub made : spaced (first ∷ rest) ≡ l
+-- the pieces of some words have these as their bytes
+pub texts-pieces : (k : ℕ) (ws : List (List ℕ)) → texts (pieces k ws) ≡ ws
+texts-pieces k [] = refl
+texts-pieces k (w ∷ ws) = ap (λ l. w ∷ l) (texts-pieces (k + length w + 1) ws)
 
-worded_step : (t : Bool) (c : ℕ) (cs : List ℕ) → (t ≡ true → c ≡ 32) → Worded cs (words cs) → Worded (c ∷ cs) (cond t ([] ∷ words cs) (grow c (words cs)))
-worded_step true c cs here h =
-    record { first = []; rest = h.first ∷ h.rest; are = ap (λ ws. [] ∷ ws) h.are; made = (λ i. sym (here refl) i ∷ h.made i) }
-worded_step false c cs here h =
-    record { first = c ∷ h.first; rest = h.rest; are = ap (grow c) h.are; made = spaced-grow c h.first h.rest ∙ ap (λ l. c ∷ l) h.made }
+-- the line l is made of its words, which are the pieces ps: there is one at least
+pub record Worded (l : List ℕ) (ps : List Piece) : Type 0 where
+  pub first : Piece
+  pub rest : List Piece
+  pub are : ps ≡ first ∷ rest
+  pub made : l ≡ spaced (first.bytes ∷ texts rest)
 
-pub worded : (l : List ℕ) → Worded l (words l)
-worded [] = record { first = []; rest = []; are = refl; made = refl }
-worded (c ∷ cs) = worded_step (eqb c 32) c cs (eqb-true c 32) (worded cs)
+-- so it is of pieces that make the line, if there are any
+worded_by : (l : List ℕ) (ps : List Piece) → 0 < length ps → l ≡ spaced (texts ps) → Worded l ps
+worded_by l [] some made = absurd (omega arith)
+worded_by l (p ∷ ps) some made = record { first = p; rest = ps; are = refl; made = made }
+
+-- and of the words of a piece
+pub worded : (p : Piece) → Worded p.bytes (words_in p)
+worded p =
+    let l = p.bytes in
+    let are = texts-pieces p.at (words l) in
+    let some = length-slice_split (λ c. eqb c 32) l in
+    worded_by l (words_in p) (omega (arith, ap length are, length-map (words_in p) (λ q. q.bytes), some)) (simp (are, join_with_byte-slice_split 32 l))

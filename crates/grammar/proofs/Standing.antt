@@ -1,71 +1,54 @@
 -- Pieces that are the script's own bytes at their places: the parts of such a piece are such pieces.
-use Rattle.std.proofs.Common.{◌≡◌, ℕ, suc, ◌+◌, ◌<◌, ◌≤◌, Bool, true, false, cond, eqb, List, [], ◌∷◌, length, get_or, take, drop, sym, refl, ap, ◌∙◌, subst, arith}
-use Rattle.std.proofs.lemmas.List.{length-take, take_all, take_at, take-take, take-append-drop, drop_more}
+use Rattle.std.proofs.Common.{◌≡◌, ℕ, suc, ◌+◌, ◌≤◌, true, false, cond, eqb, List, [], ◌∷◌, length, take, drop, sym, refl, ap, ◌∙◌, subst, arith}
+use Rattle.std.proofs.lemmas.List.{length-take, take_all, drop_more}
+use Rattle.std.proofs.lemmas.Grind.{common_steps}
 use Rattle.grammar.specs.Text.{Piece, Row, grow, parts, lines, rows, pieces, words_in}
 use Rattle.grammar.specs.Places.{Stands}
 use Rattle.grammar.specs.Grammar.{All}
-use Rattle.grammar.proofs.Steps.{cons_same}
 
 -- the bytes w at the place k
 abbrev piece_at : ℕ → List ℕ → Piece
 piece_at k w = record { at = k; bytes = w }
 
--- no bytes stand at each place, and all bytes stand at the first
+-- no bytes stand at each place
 none_stands : (script : List ℕ) (k : ℕ) → k ≤ length script → Stands script (piece_at k [])
 none_stands script k h = record { within = omega arith; is = refl }
 
-whole_stands : (script : List ℕ) → Stands script (piece_at 0 script)
-whole_stands script = record { within = omega arith; is = sym (take_all (length script) script (omega arith)) }
-
 -- the first bytes of a piece that stands
 pub front_stands : (script : List ℕ) (n : ℕ) (p : Piece) → Stands script p → Stands script (piece_at p.at (take n p.bytes))
-front_stands script n p h =
-    let w = p.bytes in
-    let m = length (take n w) in
-    let short : m ≤ length w = omega (arith, length-take n w) in
-    record {
-      within = omega arith;
-      is = sym (take_at (take n w) (drop n w) m refl) ∙ ap (take m) (take-append-drop n w ∙ h.is) ∙ take-take m (length w) (drop p.at script) short;
-    }
+front_stands script n p h = record { within = omega (arith, length-take n p.bytes); is = grind (arith, common_steps) }
 
--- the byte c stands at the place k
-record Byte (script : List ℕ) (k c : ℕ) : Type 0 where
-  inside : k < length script
-  begins : drop k script ≡ c ∷ drop (k + 1) script
+-- a piece that stands begins with its first byte
+begins : (script : List ℕ) (k c : ℕ) (cs : List ℕ) → Stands script (piece_at k (c ∷ cs)) → drop k script ≡ c ∷ drop (k + 1) script
+begins script k c cs h = let there = drop_more script k 0 (omega arith) in cc (h.is ∙ ap (take (suc (length cs))) there)
 
--- a piece that stands is its first byte and the piece behind it
-first_stands : (script : List ℕ) (k c : ℕ) (cs : List ℕ) → Stands script (piece_at k (c ∷ cs)) → Byte script k c × Stands script (piece_at (k + 1) cs)
-first_stands script k c cs h =
-    let inside : k < length script = omega arith in
-    let there = drop_more script k 0 inside in
-    let same = cons_same c (get_or script k 0) cs (take (length cs) (drop (k + 1) script)) (h.is ∙ ap (take (suc (length cs))) there) in
-    (record { inside = inside; begins = there ∙ ap (λ d. d ∷ drop (k + 1) script) (sym same.0) }, record { within = omega arith; is = same.1 })
+-- and goes on with the piece behind it
+rest_stands : (script : List ℕ) (k c : ℕ) (cs : List ℕ) → Stands script (piece_at k (c ∷ cs)) → Stands script (piece_at (k + 1) cs)
+rest_stands script k c cs h =
+    let same = h.is ∙ ap (take (suc (length cs))) (begins script k c cs h) in
+    record { within = omega arith; is = cc }
 
--- and the two together are one that stands
-more_stands : (script : List ℕ) (k c : ℕ) (w : List ℕ) → Byte script k c → Stands script (piece_at (k + 1) w) → Stands script (piece_at k (c ∷ w))
-more_stands script k c w b h =
-    record { within = omega arith; is = ap (λ l. c ∷ l) h.is ∙ sym (ap (take (suc (length w))) b.begins) }
+-- another piece behind that byte, with the byte
+more_stands : (script : List ℕ) (k c : ℕ) (cs w : List ℕ) → Stands script (piece_at k (c ∷ cs)) → Stands script (piece_at (k + 1) w) → Stands script (piece_at k (c ∷ w))
+more_stands script k c cs w b h = record { within = omega arith; is = rw (begins script k c cs b) (ap (λ l. c ∷ l) h.is) }
 
 -- parts that stand behind the byte c still do with c in front of the first
-grow_stands : (script : List ℕ) (k c : ℕ) (ps : List (List ℕ)) → Byte script k c → All (Stands script) (pieces (k + 1) ps) → All (Stands script) (pieces k (grow c ps))
-grow_stands script k c [] b h = (more_stands script k c [] b (none_stands script (k + 1) (omega arith)), tt)
-grow_stands script k c (w ∷ ws) b h =
+grow_stands : (script : List ℕ) (k c : ℕ) (cs : List ℕ) (ps : List (List ℕ)) → Stands script (piece_at k (c ∷ cs)) → All (Stands script) (pieces (k + 1) ps) → All (Stands script) (pieces k (grow c ps))
+grow_stands script k c cs [] b h = (more_stands script k c cs [] b (none_stands script (k + 1) (omega arith)), tt)
+grow_stands script k c cs (w ∷ ws) b h =
     let same : k + 1 + length w + 1 ≡ k + suc (length w) + 1 = omega arith in
-    (more_stands script k c w b h.0, subst (λ j. All (Stands script) (pieces j ws)) same h.1)
-
--- or with c between them and an empty part
-parts_step : (t : Bool) (script : List ℕ) (k c : ℕ) (ps : List (List ℕ)) → Byte script k c → All (Stands script) (pieces (k + 1) ps) → All (Stands script) (pieces k (cond t ([] ∷ ps) (grow c ps)))
-parts_step true script k c ps b h =
-    let same : k + 1 ≡ k + 0 + 1 = omega arith in
-    (none_stands script k (omega arith), subst (λ j. All (Stands script) (pieces j ps)) same h)
-parts_step false script k c ps b h = grow_stands script k c ps b h
+    (more_stands script k c cs w b h.0, subst (λ j. All (Stands script) (pieces j ws)) same h.1)
 
 -- the parts of a text that stands; the parts e stand wherever it ends
 parts_stand : (script : List ℕ) (b : ℕ) (e : List (List ℕ)) → ((k : ℕ) → k ≤ length script → All (Stands script) (pieces k e)) → (t : List ℕ) (k : ℕ) → Stands script (piece_at k t) → All (Stands script) (pieces k (parts b e t))
 parts_stand script b e ends [] k h = ends k (omega arith)
 parts_stand script b e ends (c ∷ cs) k h =
-    let first = first_stands script k c cs h in
-    parts_step (eqb c b) script k c (parts b e cs) first.0 (parts_stand script b e ends cs (k + 1) first.1)
+    let more = parts_stand script b e ends cs (k + 1) (rest_stands script k c cs h) in
+    let same : k + 1 ≡ k + 0 + 1 = omega arith in
+    elim (eqb c b) as (λ t. All (Stands script) (pieces k (cond t ([] ∷ parts b e cs) (grow c (parts b e cs))))) [
+      | true ↦ (none_stands script k (omega arith), subst (λ j. All (Stands script) (pieces j (parts b e cs))) same more)
+      | false ↦ grow_stands script k c cs (parts b e cs) h more
+    ]
 
 -- the words of a line that stands
 pub words_stand : (script : List ℕ) (p : Piece) → Stands script p → All (Stands script) (words_in p)
@@ -82,4 +65,6 @@ rows-pieces script n k (l ∷ ls) h = (h.0, rows-pieces script (n + 1) (k + leng
 
 -- the lines of a script
 pub rows_stand : (script : List ℕ) → All (RowStands script) (rows 1 0 (lines script))
-rows_stand script = rows-pieces script 1 0 (lines script) (parts_stand script 10 [] (λ k inside. tt) script 0 (whole_stands script))
+rows_stand script =
+    let whole : Stands script (piece_at 0 script) = record { within = omega arith; is = sym (take_all (length script) script (omega arith)) } in
+    rows-pieces script 1 0 (lines script) (parts_stand script 10 [] (λ k inside. tt) script 0 whole)

@@ -1,5 +1,6 @@
 -- The grammar in its own words: of what an admitted script is made.
 use Rattle.std.specs.Prelude.{◌≡◌, ℕ, ◌+◌, ◌^◌, ◌<◌, ◌≤◌, true, cond, List, [], ◌∷◌, ◌++◌, map, length, decimal, MatchResult, ◌≢◌}
+use Rattle.std.specs.List.{AllByRecursion, join_with_byte}
 use Rattle.rules.specs.declared.call.Call.{Call}
 use Rattle.rules.specs.declared.call.Call.TheVariants.{Queue, Delay, Advance, Start, Sleep, Wake, Finish, Cancel, Limit, Flush, Collect, Close}
 use Rattle.rules.specs.Format.{verb_text, verb_of}
@@ -13,8 +14,7 @@ use Rattle.grammar.specs.Reading.{read_script}
 
 -- P holds of each
 abbrev pub All : {A : Type 0} → (A → Type 0) → List A → Type 0
-All P [] = Unit {0}
-All P (x ∷ xs) = P x × All P xs
+All P xs = AllByRecursion P xs
 
 -- the byte b stands nowhere in the text
 abbrev pub Lacks : ℕ → List ℕ → Type 0
@@ -41,9 +41,7 @@ pub record Lined (script : List ℕ) (ls : List (List ℕ)) : Type 0 where
 
 -- words with one space between each and the next
 abbrev pub spaced : List (List ℕ) → List ℕ
-spaced [] = []
-spaced (w ∷ []) = w
-spaced (w ∷ v ∷ ws) = w ++ (32 ∷ spaced (v ∷ ws))
+spaced ws = join_with_byte 32 ws
 
 -- the numbers of a call
 abbrev pub numbers_of : Call → List ℕ

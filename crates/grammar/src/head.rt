@@ -3,7 +3,7 @@ use rules::head::{PolicyName, StoreName};
 use rules::sizes::Sizes;
 
 /// The head of a script: what its first three lines that are not skipped ask for.
-#[derive(Clone, Copy)]
+#[derive(Clone, Copy, Debug, PartialEq, Eq)]
 pub struct Head {
     pub sizes: Sizes,
     pub policy: PolicyName,

@@ -1,8 +1,10 @@
 -- Records that stand between two places, once some links have changed.
 use Rattle.std.proofs.Common.{◌≡◌, ℕ, ◌+◌, ◌≤◌, List, [], ◌∷◌, ◌++◌, Some, None, Option, sym, ◌∙◌, arith}
-use Rattle.list.specs.Numbers.{times, In, listed, first}
+use Rattle.std.specs.List.{slice_get}
+use Rattle.std.specs.Option.{option_to_list}
+use Rattle.list.specs.Numbers.{times, In}
 use Rattle.list.specs.Links.{Between}
-use Rattle.list.proofs.Counting.{times_append, in_first, not_none, apart, apart_last, last_or, times-first}
+use Rattle.list.proofs.Counting.{times_append, in_first, not_none, apart, apart_last, last_or, times_first}
 
 -- The link at the place a became v, and that of the record i became w; all others are as they were.
 pub record Changed (link link' : Option ℕ → Option ℕ) (a v : Option ℕ) (i : ℕ) (w : Option ℕ) : Type 0 where
@@ -12,7 +14,7 @@ pub record Changed (link link' : Option ℕ → Option ℕ) (a v : Option ℕ) (
 
 module _ (next prev : Option ℕ → Option ℕ) where
   -- what comes after the place in front of the records
-  pub first_is : (a : Option ℕ) (xs : List ℕ) → Between next prev a xs None → next a ≡ first xs
+  pub first_is : (a : Option ℕ) (xs : List ℕ) → Between next prev a xs None → next a ≡ slice_get xs 0
   first_is a [] (n, p) = n
   first_is a (x ∷ xs) (n, p, rest) = n
 
@@ -22,7 +24,7 @@ module _ (next prev : Option ℕ → Option ℕ) where
   last_is a (x ∷ xs) b (n, p, rest) = last_is (Some x) xs b rest
 
   -- the neighbours of the record i
-  pub neighbours_are : (q : Option ℕ) (a : List ℕ) (i : ℕ) (b : List ℕ) → Between next prev q (a ++ i ∷ b) None → (prev (Some i) ≡ last_or q a) × (next (Some i) ≡ first b)
+  pub neighbours_are : (q : Option ℕ) (a : List ℕ) (i : ℕ) (b : List ℕ) → Between next prev q (a ++ i ∷ b) None → (prev (Some i) ≡ last_or q a) × (next (Some i) ≡ slice_get b 0)
   neighbours_are q [] i b (n, p, rest) = (p, first_is (Some i) b rest)
   neighbours_are q (x ∷ a) i b (n, p, rest) = neighbours_are (Some x) a i b rest
 
@@ -38,7 +40,7 @@ module _ (next prev : Option ℕ → Option ℕ) where
 
     -- the record i is linked in behind the last
     pub extended : (q : Option ℕ) (xs : List ℕ) (i : ℕ) → Changed next next' (last_or q xs) (Some i) i None → Changed prev prev' None (Some i) i (last_or q xs)
-        → ((k : ℕ) → times k (listed q) + times k xs + times k (i ∷ []) ≤ 1)
+        → ((k : ℕ) → times k (option_to_list q) + times k xs + times k (i ∷ []) ≤ 1)
         → Between next prev q xs None → Between next' prev' q (xs ++ i ∷ []) None
     extended q [] i n' p' d (n, p) =
         (n'.at (apart q i (omega (arith, d i, in_first i []))), p'.own, (n'.own, p'.at (not_none i)))
@@ -49,8 +51,8 @@ module _ (next prev : Option ℕ → Option ℕ) where
     )
 
     -- the record i is taken out
-    pub shortened : (q : Option ℕ) (a : List ℕ) (i : ℕ) (b : List ℕ) → Changed next next' (last_or q a) (first b) i None → Changed prev prev' (first b) (last_or q a) i None
-        → ((k : ℕ) → times k (listed q) + times k (a ++ i ∷ b) ≤ 1)
+    pub shortened : (q : Option ℕ) (a : List ℕ) (i : ℕ) (b : List ℕ) → Changed next next' (last_or q a) (slice_get b 0) i None → Changed prev prev' (slice_get b 0) (last_or q a) i None
+        → ((k : ℕ) → times k (option_to_list q) + times k (a ++ i ∷ b) ≤ 1)
         → Between next prev q (a ++ i ∷ b) None → Between next' prev' q (a ++ b) None
     shortened q [] i [] n' p' d l = (n'.at (apart q i (omega (arith, d i, in_first i []))), p'.at (not_none i))
     shortened q [] i (y ∷ ys) n' p' d (n, p, (ni, py, rest)) = (
@@ -67,6 +69,6 @@ module _ (next prev : Option ℕ → Option ℕ) where
     )
     shortened q (x ∷ a) i b n' p' d (n, p, rest) = (
       n'.others q (apart_last q x a (λ k. omega (arith, d k, times_append k a (i ∷ b)))) (apart q i (omega (arith, d i, times_append i a (i ∷ b), in_first i b))) ∙ n,
-      p'.others (Some x) (λ e. apart (first b) x (omega (arith, d x, times_append x a (i ∷ b), times-first x b, in_first x [])) (sym e)) (apart (Some x) i (omega (arith, d i, times_append i a (i ∷ b), in_first i b))) ∙ p,
+      p'.others (Some x) (λ e. apart (slice_get b 0) x (omega (arith, d x, times_append x a (i ∷ b), times_first x b, in_first x [])) (sym e)) (apart (Some x) i (omega (arith, d i, times_append i a (i ∷ b), in_first i b))) ∙ p,
       shortened (Some x) a i b n' p' (λ k. omega (arith, d k)) rest,
     )

@@ -4,7 +4,7 @@ use Rattle.std.proofs.lemmas.List.{length-map, get_or-map}
 use Rattle.list.specs.Numbers.{NotIn}
 use Rattle.list.specs.Links.{link_at}
 use Rattle.list.specs.Lists.{Holds, members}
-use Rattle.list.specs.Changes.{Untouched, LetGo, Leaves}
+use Rattle.list.specs.Changes.{Untouched, Leaves}
 use Rattle.list.proofs.Chains.{kept}
 use Rattle.list.proofs.Holding.{held, members_are}
 
@@ -40,23 +40,3 @@ module _ {N : Type 0} (after before : N → Option ℕ) (bare : N → N) (ns ns'
         } in
         (held h, members_are h);
   }
-
-  -- a record with no links, and otherwise what it was, is what it was with its links taken off
-  pub let_go : ((x : N) → (before (bare x) ≡ None) × (after (bare x) ≡ None)) → ((x : N) → bare (bare x) ≡ bare x)
-      → ((x y : N) → before x ≡ before y → after x ≡ after y → bare x ≡ bare y → x ≡ y)
-      → (i : ℕ) → i < length ns → map bare ns' ≡ map bare ns → get_or (map before ns') i None ≡ None → get_or (map after ns') i None ≡ None → LetGo bare ns ns' i
-  let_go alone still whole i lt fields no-prev no-next d =
-      let lt' : i < length ns' = omega (arith, same) in
-      let x = get_or ns i d in
-      let x' = get_or ns' i d in
-      let rest : bare x' ≡ bare x = sym (get_or-map bare ns' i d d lt') ∙ ap (λ l. get_or l i d) fields ∙ get_or-map bare ns i d d lt in
-      whole x' (bare x) (sym (get_or-map before ns' i d None lt') ∙ no-prev ∙ sym (alone x).0) (sym (get_or-map after ns' i d None lt') ∙ no-next ∙ sym (alone x).1) (rest ∙ sym (still x))
-
--- a field that bare records keep is as it was
-module _ {N X : Type 0} (bare : N → N) (field : N → X) (keeps : (x : N) → field (bare x) ≡ field x) where
-  of_bare : (ns : List N) → map field (map bare ns) ≡ map field ns
-  of_bare [] = refl
-  of_bare (n ∷ ns) = λ j. keeps n j ∷ of_bare ns j
-
-  pub field_kept : (ns ns' : List N) → map bare ns' ≡ map bare ns → map field ns' ≡ map field ns
-  field_kept ns ns' e = sym (of_bare ns') ∙ ap (map field) e ∙ of_bare ns

@@ -1,8 +1,9 @@
 -- A list in two parts, before and behind one of its numbers.
 use Rattle.std.proofs.Common.{◌≡◌, ℕ, zero, suc, ◌+◌, ◌<◌, ◌≤◌, eqb, List, [], ◌∷◌, ◌++◌, length, Some, sym, refl, ap, ◌∙◌, inl, inr, arith}
+use Rattle.std.specs.List.{slice_get}
 use Rattle.std.proofs.lemmas.Bool.{cases_eq, cases_lt, cond-true, cond-false, eq-eqb, ne_eqb}
 use Rattle.std.proofs.lemmas.List.{length-append}
-use Rattle.list.specs.Numbers.{times, In, NotIn, Distinct, first, without, following}
+use Rattle.list.specs.Numbers.{times, In, NotIn, Distinct, without, following}
 use Rattle.list.proofs.Counting.{one, times_append, in_first, not_none}
 
 -- xs is a, then k, then b, and k is not in a
@@ -27,13 +28,13 @@ without_split k [] b h = cond-true (eqb k k) b (k ∷ without k b) (eq-eqb k k r
 without_split k (x ∷ a) b h =
     cond-false (eqb x k) (a ++ k ∷ b) (x ∷ without k (a ++ k ∷ b)) (ne_eqb x k (λ e. omega (arith, one x k))) ∙ ap (λ ys. x ∷ ys) (without_split k a b (omega arith))
 
-pub following_split : (k : ℕ) (a b : List ℕ) → NotIn k a → following k (a ++ k ∷ b) ≡ first b
-following_split k [] b h = cond-true (eqb k k) (first b) (following k b) (eq-eqb k k refl)
+pub following_split : (k : ℕ) (a b : List ℕ) → NotIn k a → following k (a ++ k ∷ b) ≡ slice_get b 0
+following_split k [] b h = cond-true (eqb k k) (slice_get b 0) (following k b) (eq-eqb k k refl)
 following_split k (x ∷ a) b h =
-    cond-false (eqb x k) (first (a ++ k ∷ b)) (following k (a ++ k ∷ b)) (ne_eqb x k (λ e. omega (arith, one x k))) ∙ following_split k a b (omega arith)
+    cond-false (eqb x k) (slice_get (a ++ k ∷ b) 0) (following k (a ++ k ∷ b)) (ne_eqb x k (λ e. omega (arith, one x k))) ∙ following_split k a b (omega arith)
 
 -- the first number is in the list, and in front of the others
-pub in_front : (k : ℕ) (xs : List ℕ) → first xs ≡ Some k → In k xs × (xs ≡ k ∷ without k xs)
+pub in_front : (k : ℕ) (xs : List ℕ) → slice_get xs 0 ≡ Some k → In k xs × (xs ≡ k ∷ without k xs)
 in_front k [] e = absurd (not_none k e)
 in_front k (x ∷ xs) e =
     let same : x ≡ k = cc in

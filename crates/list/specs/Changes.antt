@@ -1,7 +1,7 @@
 -- What each operation does: to the list, to its records, to all other records and to all other lists.
-use Rattle.std.specs.Prelude.{◌≡◌, ℕ, List, [], ◌∷◌, ◌++◌, map, Some, None, Option, MatchOption, slice_index_or}
+use Rattle.std.specs.Prelude.{◌≡◌, ℕ, List, [], ◌∷◌, ◌++◌, map, Some, None, Option, MatchOption, slice_index_or, option_to_list, slice_get}
 use Rattle.list.specs.declared.linked_list.LinkedList.{LinkedList}
-use Rattle.list.specs.Numbers.{NotIn, Disjoint, listed, first, without}
+use Rattle.list.specs.Numbers.{NotIn, Disjoint, without}
 use Rattle.list.specs.Lists.{members, Sound}
 
 -- every record but those of the given numbers is equal to what it was
@@ -15,7 +15,7 @@ LetGo {N} bare ns ns' i = (d : N) → slice_index_or ns' i d ≡ bare (slice_ind
 -- a record, if there is one, and its neighbours
 abbrev pub around : {N : Type 0} → (N → Option ℕ) → (N → Option ℕ) → List N → Option ℕ → List ℕ
 around after before ns None = []
-around after before ns (Some i) = i ∷ (listed (slice_index_or (map before ns) i None) ++ listed (slice_index_or (map after ns) i None))
+around after before ns (Some i) = i ∷ (option_to_list (slice_index_or (map before ns) i None) ++ option_to_list (slice_index_or (map after ns) i None))
 
 -- The records ns are now ns', and the list `list` is now list'.
 module _ {N : Type 0} (after before : N → Option ℕ) (bare : N → N) (ns ns' : List N) where
@@ -32,7 +32,7 @@ module _ {N : Type 0} (after before : N → Option ℕ) (bare : N → N) (ns ns'
   pub record Pushed (list list' : LinkedList) (i : ℕ) : Type 0 where
     pub sound : Sound after before ns' list'
     pub holds : members after ns' list' ≡ members after ns list ++ i ∷ []
-    pub leaves : Leaves (i ∷ members after ns list) (i ∷ listed list.back)
+    pub leaves : Leaves (i ∷ members after ns list) (i ∷ option_to_list list.back)
 
   -- The record i was let go; the others keep their order.
   pub record Removed (list list' : LinkedList) (i : ℕ) : Type 0 where
@@ -43,8 +43,8 @@ module _ {N : Type 0} (after before : N → Option ℕ) (bare : N → N) (ns ns'
 
   -- The first record was let go, and r is its number; or there was none, and nothing has changed.
   pub record Popped (list list' : LinkedList) (r : Option ℕ) : Type 0 where
-    pub front : r ≡ first (members after ns list)
+    pub front : r ≡ slice_get (members after ns list) 0
     pub sound : Sound after before ns' list'
-    pub holds : members after ns list ≡ listed r ++ members after ns' list'
+    pub holds : members after ns list ≡ option_to_list r ++ members after ns' list'
     pub alone : MatchOption r ((ns' ≡ ns) × (list' ≡ list)) (LetGo bare ns ns')
     pub leaves : Leaves (members after ns list) (around after before ns r)

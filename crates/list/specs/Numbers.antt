@@ -1,5 +1,5 @@
 -- Lists of record numbers.
-use Rattle.std.specs.Prelude.{◌≡◌, ℕ, ◌+◌, ◌<◌, ◌≤◌, cond, List, [], ◌∷◌, Some, None, Option, ◌==◌}
+use Rattle.std.specs.Prelude.{◌≡◌, ℕ, ◌+◌, ◌<◌, ◌≤◌, cond, List, [], ◌∷◌, None, Option, slice_get, ◌==◌}
 
 -- how often k is in the list
 abbrev pub times : ℕ → List ℕ → ℕ
@@ -22,16 +22,6 @@ Distinct xs = (k : ℕ) → times k xs ≤ 1
 abbrev pub Disjoint : List ℕ → List ℕ → Type 0
 Disjoint xs ys = (k : ℕ) → In k xs → NotIn k ys
 
--- what may be none, as a list
-abbrev pub listed : {A : Type 0} → Option A → List A
-listed None = []
-listed (Some x) = x ∷ []
-
--- the first of a list, or none
-abbrev pub first : {A : Type 0} → List A → Option A
-first [] = None
-first (x ∷ xs) = Some x
-
 -- the list without its first k; the others keep their order
 abbrev pub without : ℕ → List ℕ → List ℕ
 without k [] = []
@@ -40,4 +30,4 @@ without k (x ∷ xs) = cond (x == k) xs (x ∷ without k xs)
 -- the number right behind the first k, or none
 abbrev pub following : ℕ → List ℕ → Option ℕ
 following k [] = None
-following k (x ∷ xs) = cond (x == k) (first xs) (following k xs)
+following k (x ∷ xs) = cond (x == k) (slice_get xs 0) (following k xs)

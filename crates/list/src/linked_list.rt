@@ -1,16 +1,15 @@
 //! The lists and their operations.
-ghost use Rattle.std.specs.Prelude.{◌≡◌, ℕ, ◌+◌, ◌-◌, ◌^◌, ◌<◌, List, [], length, Some as Just, None as Nothing, Option as Maybe};
+ghost use Rattle.std.specs.Prelude.{◌≡◌, ℕ, ◌<◌, List, [], length, Option as Maybe, IfSome};
 ghost use Rattle.list.specs.Changes.{Popped, Pushed, Removed};
-ghost use Rattle.list.specs.Links.{end_with, Within};
 ghost use Rattle.list.specs.Lists.{empty, members, Holds, Sound};
 ghost use Rattle.list.specs.Numbers.{In, NotIn};
-ghost use Rattle.list.specs.Writes.{Rewired, Written};
+ghost use Rattle.list.specs.Writes.{Joined};
 
-use crate::node::{Node, neighbours_of};
+use crate::node::{Node, neighbours_of, unlink};
 
 /// A list through the records of a slice: the numbers of its first and its last record, and how
 /// many records stand in it.
-#[derive(Clone, Copy)]
+#[derive(Clone, Copy, Debug, PartialEq, Eq)]
 pub struct LinkedList {
     pub front: Option<u16>,
     pub back: Option<u16>,
@@ -37,8 +36,9 @@ impl LinkedList {
         requires new { NotIn i (members N.after nodes.old self.old) }
         ensures { Pushed N.after N.before N.bare nodes.old nodes.new self.old self.new i }
     {
-        let back = self.back;
-        self.link(nodes, back, i, None);
+        self.join(nodes, self.back, Some(i));
+        self.join(nodes, Some(i), None);
+        self.count += 1;
     }
 
     /// Takes the first record of the list, if there is one, and tells its number.
@@ -46,9 +46,9 @@ impl LinkedList {
         requires { Sound N.after N.before nodes.old self.old }
         ensures { Popped N.after N.before N.bare nodes.old nodes.new self.old self.new result }
     {
-        let front = self.front;
-        self.drop_front(nodes);
-        front
+        let i = self.front?;
+        self.remove(nodes, i);
+        Some(i)
     }
 
     /// Lets the record `i` of the list go, from wherever it stands in it.
@@ -58,77 +58,26 @@ impl LinkedList {
         ensures { Removed N.after N.before N.bare nodes.old nodes.new self.old self.new i }
     {
         let beside = neighbours_of(nodes, i);
-        self.unlink(nodes, beside.prev, i, beside.next);
-    }
-
-    /// Lets the first record of the list go, if there is one.
-    fn drop_front<N: Node>(&mut self, nodes: &mut [N])
-        requires { Sound N.after N.before nodes.old self.old }
-        ensures { Popped N.after N.before N.bare nodes.old nodes.new self.old self.new self.old.front }
-    {
-        if let Some(i) = self.front {
-            self.remove(nodes, i);
-        }
-    }
-
-    /// Sets the record `i` between two places. A place is a record or, with no number, the list
-    /// itself: its front comes after it, and its back before it.
-    fn link<N: Node>(&mut self, nodes: &mut [N], prev: Option<u16>, i: u16, next: Option<u16>)
-        requires inside { i < length nodes.old }
-        requires prev { Within prev (length nodes.old) }
-        requires next { Within next (length nodes.old) }
-        requires room { self.old.count + 1 < 2 ^ 64 }
-        ensures links { Rewired N.after N.before N.bare nodes.old nodes.new self.old self.new prev next (Just i) (Just i) i prev next }
-        ensures count { self.new.count ≡ self.old.count + 1 }
-    {
-        self.set_next(nodes, prev, Some(i));
-        self.set_prev(nodes, next, Some(i));
-        self.set_next(nodes, Some(i), next);
-        self.set_prev(nodes, Some(i), prev);
-        self.count += 1;
-    }
-
-    /// Takes the record `i` out from between two places, and its links off.
-    fn unlink<N: Node>(&mut self, nodes: &mut [N], prev: Option<u16>, i: u16, next: Option<u16>)
-        requires inside { i < length nodes.old }
-        requires prev { Within prev (length nodes.old) }
-        requires next { Within next (length nodes.old) }
-        requires some { 0 < self.old.count }
-        ensures links { Rewired N.after N.before N.bare nodes.old nodes.new self.old self.new prev next next prev i Nothing Nothing }
-        ensures count { self.new.count ≡ self.old.count - 1 }
-    {
-        self.set_next(nodes, prev, next);
-        self.set_prev(nodes, next, prev);
-        self.set_next(nodes, Some(i), None);
-        self.set_prev(nodes, Some(i), None);
+        self.join(nodes, beside.prev, beside.next);
+        unlink(nodes, i);
         self.count -= 1;
     }
 
-    /// Lets `to` come after the place `at`.
-    fn set_next<N: Node>(&mut self, nodes: &mut [N], at: Option<u16>, to: Option<u16>)
-        requires { Within at (length nodes.old) }
-        ensures nodes { Written N.after N.before N.bare nodes.old nodes.new at to }
-        ensures front { self.new.front ≡ end_with self.old.front at to }
-        ensures back { self.new.back ≡ self.old.back }
-        ensures count { self.new.count ≡ self.old.count }
+    /// Lets `b` come after `a`, and `a` before `b`. Each is the number of a record or, where there
+    /// is none, the list itself: its front comes after it, and its back before it.
+    #[tactic(auto, using(crate::proofs::Writing::link_set))]
+    fn join<N: Node>(&mut self, nodes: &mut [N], a: Option<u16>, b: Option<u16>)
+        requires a { IfSome a (λ i. i < length nodes.old) }
+        requires b { IfSome b (λ i. i < length nodes.old) }
+        ensures { Joined N.after N.before N.bare nodes.old nodes.new self.old self.new a b }
     {
-        match at {
-            Some(i) => nodes[i as usize].set_next(to),
-            None => self.front = to,
+        match a {
+            Some(i) => nodes[usize::from(i)].set_next(b),
+            None => self.front = b,
         }
-    }
-
-    /// Lets `to` come before the place `at`.
-    fn set_prev<N: Node>(&mut self, nodes: &mut [N], at: Option<u16>, to: Option<u16>)
-        requires { Within at (length nodes.old) }
-        ensures nodes { Written N.before N.after N.bare nodes.old nodes.new at to }
-        ensures front { self.new.front ≡ self.old.front }
-        ensures back { self.new.back ≡ end_with self.old.back at to }
-        ensures count { self.new.count ≡ self.old.count }
-    {
-        match at {
-            Some(i) => nodes[i as usize].set_prev(to),
-            None => self.back = to,
+        match b {
+            Some(i) => nodes[usize::from(i)].set_prev(a),
+            None => self.back = a,
         }
     }
 }

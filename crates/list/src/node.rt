@@ -1,6 +1,7 @@
 //! Records that can stand in a list.
-ghost use Rattle.std.specs.Prelude.{◌≡◌, ℕ, ◌<◌, map, length, None as Nothing, Option as Maybe, slice_index_or};
+ghost use Rattle.std.specs.Prelude.{◌≡◌, ℕ, ◌<◌, map, length, None as Nothing, Option as Maybe, slice_index_or, slice_set};
 ghost use Rattle.list.specs.Lists.{Follows};
+ghost use Rattle.list.specs.Writes.{Unlinked};
 
 /// A record with two neighbours, which are records of the same slice.
 pub trait Node {
@@ -55,9 +56,8 @@ pub(crate) fn neighbours_of<N: Node>(nodes: &[N], i: u16) -> Neighbours
     requires { i < length nodes.now }
     ensures prev { result.prev ≡ slice_index_or (map N.before nodes.now) i Nothing }
     ensures next { result.next ≡ slice_index_or (map N.after nodes.now) i Nothing }
-    ensures walk { Follows N.after N.before nodes.now i result.next }
 {
-    let node = &nodes[i as usize];
+    let node = &nodes[usize::from(i)];
     Neighbours {
         prev: node.prev(),
         next: node.next(),
@@ -72,4 +72,16 @@ pub fn next_of<N: Node>(nodes: &[N], i: u16) -> Option<u16>
     ensures walk { Follows N.after N.before nodes.now i result }
 {
     neighbours_of(nodes, i).next
+}
+
+/// Takes the links of the record `i` off.
+#[tactic(auto, using(crate::proofs::Writing::link_set))]
+pub(crate) fn unlink<N: Node>(nodes: &mut [N], i: u16)
+    requires { i < length nodes.old }
+    ensures links { Unlinked N.after N.before N.bare nodes.old nodes.new i }
+    ensures bare { (d : N) → nodes.new ≡ slice_set nodes.old i (N.bare (slice_index_or nodes.old i d)) }
+{
+    let node = &mut nodes[usize::from(i)];
+    node.set_prev(None);
+    node.set_next(None);
 }

@@ -1,8 +1,9 @@
 -- A record goes from the front of one list to the end of another.
 use Rattle.std.proofs.Common.{◌≡◌, ℕ, ◌<◌, List, [], ◌∷◌, ◌++◌, length, Some, Option, sym, ap, ◌∙◌, inl, inr, arith}
+use Rattle.std.specs.Option.{option_to_list}
 use Rattle.std.proofs.lemmas.Bool.{cases_lt}
 use Rattle.list.specs.declared.linked_list.LinkedList.{LinkedList}
-use Rattle.list.specs.Numbers.{times, NotIn, Disjoint, listed}
+use Rattle.list.specs.Numbers.{times, NotIn, Disjoint}
 use Rattle.list.specs.Lists.{members, Sound}
 use Rattle.list.specs.Changes.{around, Pushed, Popped}
 use Rattle.list.proofs.Counting.{one, times_append}
@@ -15,7 +16,7 @@ flipped : (xs ys : List ℕ) → Disjoint xs ys → Disjoint ys xs
 flipped xs ys d k o = elim (cases_lt 0 (times k xs)) [ inl h ↦ omega (arith, d k h) | inr h ↦ omega arith ]
 
 -- The record i was taken from the list `from`, which is now from₁.
-module _ {N : Type 0} (after before : N → Option ℕ) (bare : N → N) (ns ns₁ : List N) (from from₁ to : LinkedList) (i : ℕ)
+module _ {N : Type 0} {after before : N → Option ℕ} {bare : N → N} {ns ns₁ : List N} {from from₁ to : LinkedList} {i : ℕ}
     (from-was : Sound after before ns from) (to-was : Sound after before ns to) (were-apart : Disjoint (members after ns from) (members after ns to))
     (popped : Popped after before bare ns ns₁ from from₁ (Some i)) where
   -- the other list is still what it was
@@ -23,7 +24,7 @@ module _ {N : Type 0} (after before : N → Option ℕ) (bare : N → N) (ns ns�
   stays = popped.leaves.others to to-was (flipped (members after ns from) (members after ns to) were-apart)
 
   pub inside : i < length ns
-  inside = first_in_slice after before ns from from-was i (members after ns₁ from₁) popped.holds
+  inside = first_in_slice from-was popped
 
   -- how often a number is in the one list, and in the other
   in_from : (k : ℕ) → times k (members after ns from) ≡ times k (i ∷ members after ns₁ from₁)
@@ -45,12 +46,12 @@ module _ {N : Type 0} (after before : N → Option ℕ) (bare : N → N) (ns ns�
   not_popped : (k : ℕ) → NotIn k own → NotIn k (around after before ns (Some i))
   not_popped k out = not_around from-was (split i (members after ns from) (omega (arith, in_from i, one i i))) k (omega (arith, times_append k (members after ns from) (members after ns to)))
 
-  not_pushed : (k : ℕ) → NotIn k own → NotIn k (i ∷ listed to.back)
+  not_pushed : (k : ℕ) → NotIn k own → NotIn k (i ∷ option_to_list to.back)
   not_pushed k out = omega (arith, times_append k (members after ns from) (members after ns to), in_from k, in_to k, back_in stays.0 k)
 
   -- it was put at the end of the other list, which is now to₂
-  pub moved : (ns₂ : List N) (to₂ : LinkedList) → length ns₂ ≡ length ns → Pushed after before bare ns₁ ns₂ to to₂ i → Moved after before bare ns ns₂ from from₁ to to₂ (Some i)
-  moved ns₂ to₂ same pushed =
+  pub moved : {ns₂ : List N} {to₂ : LinkedList} → length ns₂ ≡ length ns → Pushed after before bare ns₁ ns₂ to to₂ i → Moved after before bare ns ns₂ from from₁ to to₂ (Some i)
+  moved {ns₂ = ns₂} same pushed =
       let goes_on = pushed.leaves.others from₁ popped.sound still_apart in
       record {
         front = popped.front;

@@ -18,9 +18,7 @@ pub fn move_front<N: Node>(
     requires apart { Disjoint (members N.after nodes.old from.old) (members N.after nodes.old to.old) }
     ensures { Moved N.after N.before N.bare nodes.old nodes.new from.old from.new to.old to.new result }
 {
-    let Some(i) = from.pop_front(nodes) else {
-        return None;
-    };
+    let i = from.pop_front(nodes)?;
     to.push_back(nodes, i);
     Some(i)
 }

@@ -1,7 +1,6 @@
 //! A grid profile: register writes that are made one at a time, in their order.
-ghost use Rattle.std.specs.Prelude.{◌≡◌, ◌++◌, map};
+ghost use Rattle.std.specs.Prelude.{◌≡◌, ◌++◌, map, option_to_list, slice_get};
 ghost use Rattle.list.specs.Lists.{Sound};
-ghost use Rattle.list.specs.Numbers.{first, listed};
 ghost use Rattle.list_examples.specs.Kinds.{write_after, write_before};
 ghost use Rattle.list_examples.specs.Settings.{pending, setting_of};
 
@@ -32,13 +31,11 @@ impl Profile {
 
     /// Takes the write that has waited longest, if one waits: its register and its value.
     pub fn next_write(&mut self) -> Option<(u16, u32)>
-        ensures front { result ≡ first (pending self.old.writes self.old.waiting) }
-        ensures rest { pending self.old.writes self.old.waiting ≡ listed result ++ pending self.new.writes self.new.waiting }
+        ensures front { result ≡ slice_get (pending self.old.writes self.old.waiting) 0 }
+        ensures rest { pending self.old.writes self.old.waiting ≡ option_to_list result ++ pending self.new.writes self.new.waiting }
     {
-        let Some(i) = self.waiting.pop_front(&mut self.writes) else {
-            return None;
-        };
-        let write = self.writes[i as usize];
+        let i = self.waiting.pop_front(&mut self.writes)?;
+        let write = self.writes[usize::from(i)];
         Some((write.register, write.value))
     }
 }

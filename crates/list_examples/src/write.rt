@@ -6,7 +6,7 @@ ghost use Rattle.std.proofs.Common.{rules};
 use list::node::Node;
 
 /// A register write that waits for its turn.
-#[derive(Clone, Copy)]
+#[derive(Clone, Copy, Debug, PartialEq, Eq)]
 pub struct Write {
     pub register: u16,
     pub value: u32,

@@ -1,7 +1,8 @@
 -- Counts of calls: a script has few calls, and the step from one call to the next.
-use Rattle.std.proofs.Common.{◌≡◌, ℕ, suc, ◌+◌, ◌<◌, ◌≤◌, Bool, true, false, cond, eqb, ltb, List, [], ◌∷◌, length, get_or, drop, set, Ok, Err, Result, sym, refl, ap, ◌∙◌, ⊎_elim, arith}
-use Rattle.std.proofs.lemmas.List.{length-drop, length-set, get_or-set_same, get_or-set_other}
-use Rattle.std.proofs.lemmas.Bool.{cases_eq, eq-eqb, ne_eqb}
+use Rattle.std.proofs.Common.{◌≡◌, ℕ, suc, ◌+◌, ◌<◌, ◌≤◌, Bool, cond, eqb, ltb, List, [], ◌∷◌, length, get_or, drop, set, Ok, Err, Result, refl, ap, arith}
+use Rattle.std.proofs.lemmas.List.{length-drop}
+use Rattle.std.proofs.lemmas.Grind.{common_steps}
+use Rattle.std.proofs.lemmas.Bool.Decides.{nat_tests}
 use Rattle.rules.specs.declared.call.Call.{Call}
 use Rattle.rules.specs.Format.{verb_index, verb_of}
 use Rattle.grammar.specs.declared.numbered.NumberedCall.{NumberedCall}
@@ -19,8 +20,7 @@ length-grow c [] = omega arith
 length-grow c (l ∷ ls) = omega arith
 
 length_part : (ends : Bool) (c : ℕ) (ls : List (List ℕ)) → length (cond ends ([] ∷ ls) (grow c ls)) ≤ length ls + 1
-length_part true c ls = omega arith
-length_part false c ls = length-grow c ls
+length_part ends c ls = grind (arith, length-grow c ls)
 
 -- a text has no more lines than bytes
 length-lines : (text : List ℕ) → length (lines text) ≤ length text
@@ -36,9 +36,7 @@ length_then n (Ok c) cs = omega arith
 length_then n (Err f) cs = omega arith
 
 length_row : (long skip : Bool) (n : ℕ) (r : Result Call Failure) (cs : List NumberedCall) → length (cond long [] (cond skip cs (call_then n r cs))) ≤ length cs + 1
-length_row true skip n r cs = omega arith
-length_row false true n r cs = omega arith
-length_row false false n r cs = length_then n r cs
+length_row long skip n r cs = grind (arith, length_then n r cs)
 
 -- rows have no more calls than there are rows
 length_good : (rs : List Row) → length (good_calls rs) ≤ length rs
@@ -53,8 +51,7 @@ few_calls s =
     omega (arith, length_good (rows_left s.lines), length-rows (s.lines.count + 1) s.lines.at (lines left), length-lines left, length-drop s.lines.at s.lines.script.now)
 
 count_one : (here : Bool) (n : ℕ) → cond here 1 0 + n ≤ n + 1
-count_one true n = omega arith
-count_one false n = omega arith
+count_one here n = grind arith
 
 -- no count exceeds the number of calls
 count_le : (k : ℕ) (cs : List NumberedCall) → count_at k cs ≤ length cs
@@ -66,27 +63,5 @@ pub count_small : (k : ℕ) (s : Calls) → count_at k (calls_left s) ≤ 32768
 count_small k s = omega (arith, count_le k (calls_left s), few_calls s)
 
 -- one call is counted at the place of its verb
-count_more : (counts : List ℕ) (c : NumberedCall) (cs : List NumberedCall) (i k : ℕ) → i ≡ verb_index (verb_of c.call) → i < length counts → get_or (set counts i (get_or counts i 0 + 1)) k 0 + count_at k cs ≡ get_or counts k 0 + count_at k (c ∷ cs)
-count_more counts c cs i k is within =
-    ⊎_elim
-    (λ same.
-    let here : cond {A = ℕ} (eqb (verb_index (verb_of c.call)) k) 1 0 ≡ 1 = ap (λ t. cond t 1 0) (eq-eqb _ _ (sym is ∙ same)) in
-    let got : get_or (set counts i (get_or counts i 0 + 1)) k 0 ≡ get_or counts k 0 + 1 = rw (← same) (get_or-set_same counts i _ 0 within) in
-    omega arith)
-    (λ other.
-    let here : cond {A = ℕ} (eqb (verb_index (verb_of c.call)) k) 1 0 ≡ 0 = ap (λ t. cond t 1 0) (ne_eqb _ _ (λ e. other (is ∙ e))) in
-    let got : get_or (set counts i (get_or counts i 0 + 1)) k 0 ≡ get_or counts k 0 = get_or-set_other counts i k _ 0 (λ e. other (sym e)) in
-    omega arith)
-    (cases_eq i k)
-
--- of all calls these are left, and the others are counted
-pub record Counted (all left : List NumberedCall) (counts : List ℕ) : Type 0 where
-  pub long : length counts ≡ 12
-  pub each : (k : ℕ) → k < 12 → get_or counts k 0 + count_at k left ≡ count_at k all
-
--- the next call is counted
-pub counted_more : (all cs left : List NumberedCall) (counts : List ℕ) (c : NumberedCall) (i : ℕ) → Counted all cs counts → cs ≡ c ∷ left → i ≡ verb_index (verb_of c.call) → i < 12 → Counted all left (set counts i (get_or counts i 0 + 1))
-counted_more all cs left counts c i so next is within = record {
-  long = length-set counts i _ ∙ so.long;
-  each = λ k h. count_more counts c left i k is (omega (arith, so.long)) ∙ ap (λ l. get_or counts k 0 + count_at k l) (sym next) ∙ so.each k h;
-}
+pub count_more : (counts : List ℕ) (c : NumberedCall) (cs : List NumberedCall) (i k : ℕ) → i ≡ verb_index (verb_of c.call) → i < length counts → get_or (set counts i (get_or counts i 0 + 1)) k 0 + count_at k cs ≡ get_or counts k 0 + count_at k (c ∷ cs)
+count_more counts c cs i k is within = grind (arith, common_steps, nat_tests)

@@ -7,11 +7,9 @@ use Rattle.rules.specs.Format.{verbs, verb_text, verb_index}
 use Rattle.grammar.specs.declared.numbered.NumberedCall.{NumberedCall}
 use Rattle.report.specs.Report.{entry, count_at, verb_report}
 
--- after the lines on the first verbs comes the line on the next one
-pub lines_more : (cs : List NumberedCall) (text bs name : List ℕ) (n i : ℕ) (d : Verb) → i < length verbs → text ≡ flat_map (verb_report cs) (take i verbs) ++ bs → bs ≡ entry name (decimal n) [] → name ≡ verb_text (get_or verbs i d) → n ≡ count_at (verb_index (get_or verbs i d)) cs → text ≡ flat_map (verb_report cs) (take (i + 1) verbs)
-lines_more cs text bs name n i d h after written named counted =
-    let front = flat_map (verb_report cs) (take i verbs) in
-    after
-    ∙ ap (λ l. front ++ l) (written ∙ (λ j. entry (named j) (decimal (counted j)) []))
-    ∙ flat_map_more (verb_report cs) [] (take i verbs) (get_or verbs i d)
-    ∙ ap (flat_map (verb_report cs)) (sym (take_more verbs i d h))
+-- behind the lines on the first verbs comes the line on the next one
+pub lines_more : (cs : List NumberedCall) (front text : List ℕ) (n i : ℕ) (d : Verb) → i < length verbs → text ≡ front ++ flat_map (verb_report cs) (take i verbs) → n ≡ count_at (verb_index (get_or verbs i d)) cs → text ++ entry (verb_text (get_or verbs i d)) (decimal n) [] ≡ front ++ flat_map (verb_report cs) (take (i + 1) verbs)
+lines_more cs front text n i d h before counted =
+    (λ j. before j ++ entry (verb_text (get_or verbs i d)) (decimal (counted j)) [])
+    ∙ flat_map_more (verb_report cs) front (take i verbs) (get_or verbs i d)
+    ∙ ap (λ vs. front ++ flat_map (verb_report cs) vs) (sym (take_more verbs i d h))

@@ -13,7 +13,7 @@ use Rattle.script.specs.declared.lines.WordLine.{WordLine}
 use Rattle.script.specs.Lines.{lines_left, rows_left}
 use Rattle.script.specs.Kept.{Found, Ended, word_row}
 use Rattle.script.specs.Parts.{failure_of}
-use Rattle.script.specs.Outcome.{CallFound, CallsEnd, CallFails, Sound, okay}
+use Rattle.script.specs.Outcome.{CallFound, CallsEnd, CallFails, okay}
 
 -- the result and the calls of the rows, from the next one that is not skipped on
 abbrev pub result_from : Result (Option (Row × List Row)) Failure → Result (List NumberedCall) Failure
@@ -45,30 +45,22 @@ pub call_found : (s t : Lines) (l : WordLine) (c : Call) → Found s l t → Ok 
 call_found s t l c g e =
     record {
       same = g.same;
-      calls = result_from_lem (rows_left s) ∙ ap result_from g.row ∙ ap (λ r. next r (λ d. next (call_rows (rows_left t)) (λ cs. Ok (record { line = l.number; call = d } ∷ cs)))) (sym e);
-      good = calls_from_lem (rows_left s) ∙ ap calls_from g.row ∙ ap (λ r. call_then l.number r (good_calls (rows_left t))) (sym e);
+      calls = rw (result_from_lem (rows_left s), g.row, ← e);
+      good = rw (calls_from_lem (rows_left s), g.row, ← e);
       counted = g.counted;
       on = g.on;
     }
 
 pub call_fails : (s t : Lines) (l : WordLine) (f : Fault) → Found s l t → Err (failure_of f) ≡ read_row call_in (word_row l) → CallFails s f
 call_fails s t l f g e =
-    record {
-      calls = result_from_lem (rows_left s) ∙ ap result_from g.row ∙ ap (λ r. next r (λ d. next (call_rows (rows_left t)) (λ cs. Ok (record { line = l.number; call = d } ∷ cs)))) (sym e);
-      good = calls_from_lem (rows_left s) ∙ ap calls_from g.row ∙ ap (λ r. call_then l.number r (good_calls (rows_left t))) (sym e);
-    }
+    record { calls = rw (result_from_lem (rows_left s), g.row, ← e); good = rw (calls_from_lem (rows_left s), g.row, ← e) }
 
 pub line_fails : (s : Lines) (f : Fault) → next_row (rows_left s) ≡ Err (failure_of f) → CallFails s f
-line_fails s f e =
-    record { calls = result_from_lem (rows_left s) ∙ ap result_from e; good = calls_from_lem (rows_left s) ∙ ap calls_from e }
+line_fails s f e = record { calls = rw (result_from_lem (rows_left s), e); good = rw (calls_from_lem (rows_left s), e) }
 
 pub calls_end : (s t : Lines) → Ended s t → CallsEnd s t
 calls_end s t g =
-    record {
-      calls = result_from_lem (rows_left s) ∙ ap result_from g.row;
-      good = calls_from_lem (rows_left s) ∙ ap calls_from g.row;
-      counted = g.counted;
-    }
+    record { calls = rw (result_from_lem (rows_left s), g.row); good = rw (calls_from_lem (rows_left s), g.row); counted = g.counted }
 
 -- the calls before t are read, and t is what is left
 pub record Checking (s t : Lines) : Type 0 where
@@ -77,13 +69,6 @@ pub record Checking (s t : Lines) : Type 0 where
   pub calls : call_rows (rows_left s) ≡ next (call_rows (rows_left t)) (λ cs. Ok (past ++ cs))
   pub good : good_calls (rows_left s) ≡ past ++ good_calls (rows_left t)
   pub counted : t.skipped + skips (lines_left t) ≡ s.skipped + skips (lines_left s)
-
-same_result : (r : Result (List NumberedCall) Failure) → r ≡ next r okay
-same_result (Ok cs) = refl
-same_result (Err f) = refl
-
-pub checking_none : (s : Lines) → Checking s s
-checking_none s = record { same = refl; past = []; calls = same_result (call_rows (rows_left s)); good = refl; counted = refl }
 
 -- one call more in front of what is left
 pushed : (r : Result (List NumberedCall) Failure) (past : List NumberedCall) (c : NumberedCall) → next (next r (λ cs. Ok (c ∷ cs))) (λ cs. Ok (past ++ cs)) ≡ next r (λ cs. Ok ((past ++ (c ∷ [])) ++ cs))
@@ -95,18 +80,7 @@ checking_more s t u c h g =
     record {
       same = g.same ∙ h.same;
       past = h.past ++ (c ∷ []);
-      calls = h.calls ∙ ap (λ r. next r (λ cs. Ok (h.past ++ cs))) g.calls ∙ pushed (call_rows (rows_left u)) h.past c;
-      good = h.good ∙ ap (λ cs. h.past ++ cs) g.good ∙ sym (append_assoc h.past (c ∷ []) (good_calls (rows_left u)));
-      counted = g.counted ∙ h.counted;
-    }
-
--- the first fault, or the end
-pub checking_stops : (s t : Lines) (f : Fault) → Checking s t → CallFails t f → call_rows (rows_left s) ≡ Err (failure_of f)
-checking_stops s t f h g = h.calls ∙ ap (λ r. next r (λ cs. Ok (h.past ++ cs))) g.calls
-
-pub checking_all : (s t u : Lines) → Checking s t → CallsEnd t u → Sound s u
-checking_all s t u h g =
-    record {
-      calls = h.calls ∙ ap (λ r. next r (λ cs. Ok (h.past ++ cs))) g.calls ∙ ap okay (sym (h.good ∙ ap (λ cs. h.past ++ cs) g.good));
+      calls = rw (h.calls, g.calls) (pushed (call_rows (rows_left u)) h.past c);
+      good = rw (h.good, g.good, append_assoc);
       counted = g.counted ∙ h.counted;
     }

@@ -1,7 +1,5 @@
-pub mod Digits
 pub mod Splitting
 pub mod Cutting
-pub mod Skipping
 pub mod Stepping
 pub mod Keeping
 pub mod Checking

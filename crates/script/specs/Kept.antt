@@ -1,10 +1,10 @@
 -- The step of the line reader to the next line that is not skipped.
-use Rattle.std.specs.Prelude.{◌≡◌, ◌+◌, ◌<◌, [], ◌∷◌, Some, None, Ok, Err, Option, Result}
+use Rattle.std.specs.Prelude.{◌≡◌, ◌+◌, ◌<◌, [], Some, None, Ok, Err, Option, Result}
 use Rattle.script.specs.declared.fault.Fault.{Fault}
 use Rattle.script.specs.declared.lines.Lines.{Lines}
 use Rattle.script.specs.declared.lines.WordLine.{WordLine}
-use Rattle.grammar.specs.Text.{Row, skips, words_in}
-use Rattle.script.specs.Parts.{piece_of, words_left, NearRest, failure_of}
+use Rattle.grammar.specs.Text.{Row, skips}
+use Rattle.script.specs.Parts.{piece_of, failure_of}
 use Rattle.script.specs.Lines.{lines_left, rows_left}
 use Rattle.grammar.specs.Reading.{next_row}
 
@@ -12,16 +12,10 @@ use Rattle.grammar.specs.Reading.{next_row}
 abbrev pub word_row : WordLine → Row
 word_row l = record { number = l.number; text = piece_of l.text }
 
--- the first word of a line, and the words behind it
-pub record Worded (l : WordLine) : Type 0 where
-  pub words : words_in (piece_of l.text) ≡ piece_of l.first ∷ words_left l.rest
-  pub near : NearRest l.rest
-
 -- the line l is the next one
 pub record Found (s : Lines) (l : WordLine) (t : Lines) : Type 0 where
   pub same : t.script.now ≡ s.script.now
   pub row : next_row (rows_left s) ≡ Ok (Some (word_row l, rows_left t))
-  pub worded : Worded l
   pub counted : t.skipped + skips (lines_left t) ≡ s.skipped + skips (lines_left s)
   pub on : s.at < t.at
 

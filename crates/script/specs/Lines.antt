@@ -1,22 +1,22 @@
 -- The line reader: what is left of a script, and one step.
-use Rattle.std.specs.Prelude.{◌≡◌, ℕ, ◌+◌, ◌<◌, false, cond, List, [], ◌∷◌, drop, Some, None, Option, ◌==◌}
+use Rattle.std.specs.Prelude.{◌≡◌, ℕ, ◌+◌, ◌<◌, false, List, [], ◌∷◌, drop, Some, None, Option, ◌==◌}
+use Rattle.std.specs.List.{position_or_len}
 use Rattle.script.specs.declared.line.Line.{Line}
 use Rattle.script.specs.declared.line.Line.TheVariants.{Empty, Comment, Words}
 use Rattle.script.specs.declared.lines.Lines.{Lines}
 use Rattle.script.specs.declared.lines.NumberedLine.{NumberedLine}
 use Rattle.grammar.specs.Text.{Piece, Row, lines, skipped, rows, words_in}
-use Rattle.script.specs.Parts.{piece_of, words_left, Near, NearRest}
+use Rattle.script.specs.Parts.{piece_of, words_left}
 
 -- the place of the first b, or the length
 abbrev pub place : ℕ → List ℕ → ℕ
-place b [] = 0
-place b (c ∷ cs) = cond (c == b) 0 (place b cs + 1)
+place b w = position_or_len (λ c. c == b) w
 
 -- what a line says
 abbrev pub Says : Piece → Line → Type 0
 Says text Empty = text.bytes ≡ []
 Says text (Comment rest) = text.bytes ≡ 35 ∷ rest.now
-Says text (Words first rest) = (skipped text.bytes ≡ false) × (words_in text ≡ piece_of first ∷ words_left rest) × NearRest rest
+Says text (Words first rest) = (skipped text.bytes ≡ false) × (words_in text ≡ piece_of first ∷ words_left rest)
 
 -- the lines that are left
 abbrev pub lines_left : Lines → List (List ℕ)
@@ -42,7 +42,6 @@ pub record Given (s : Lines) (l : NumberedLine) (t : Lines) : Type 0 where
   pub same : t.script.now ≡ s.script.now
   pub head : lines_left s ≡ l.text.bytes.now ∷ lines_left t
   pub rest : rows_left s ≡ row_of l ∷ rows_left t
-  pub near : Near l.text
   pub counted : t.count ≡ s.count + 1
   pub skips : t.skipped ≡ s.skipped
   pub on : s.at < t.at

@@ -1,12 +1,13 @@
 -- What the reader's values say, with what their references point to.
 use Rattle.std.specs.Option.{option_map}
-use Rattle.std.specs.Prelude.{◌+◌, ◌≤◌, List, [], length, Some, None, Ok, Err, Option, Result}
+use Rattle.std.specs.Prelude.{List, [], Some, None, Ok, Err, Result}
 use Rattle.rules.specs.declared.fault.FaultKind.TheVariants as kind
 use Rattle.script.specs.declared.part.Part.{Part}
 use Rattle.script.specs.declared.fault.Fault.{Fault}
 use Rattle.script.specs.declared.fault.WordFault.{WordFault}
 use Rattle.script.specs.declared.fault.LineFault.{LineFault}
 use Rattle.script.specs.declared.fault.LineFault.TheVariants.{Verb, Count, Word, Refused}
+use Rattle.script.specs.declared.words.Words.{Words}
 use Rattle.grammar.specs.Text.{Piece, words_in}
 use Rattle.grammar.specs.Faults.{Blame, Failure, bad_word, refused_line}
 
@@ -14,19 +15,9 @@ use Rattle.grammar.specs.Faults.{Blame, Failure, bad_word, refused_line}
 abbrev pub piece_of : Part → Piece
 piece_of p = record { at = p.at; bytes = p.bytes.now }
 
--- what is left of a line behind a space: its words
-abbrev pub words_left : Option Part → List Piece
-words_left None = []
-words_left (Some p) = words_in (piece_of p)
-
--- the part ends within the longest script, so that no place overflows
-abbrev pub Near : Part → Type 0
-Near p = p.at + length p.bytes.now ≤ 32768
-
--- the same of what is left of a line, if anything is
-abbrev pub NearRest : Option Part → Type 0
-NearRest None = Unit {0}
-NearRest (Some p) = Near p
+-- the words that are left of a line
+abbrev pub words_left : Words → List Piece
+words_left w = elim w.left [ None ↦ [] | Some p ↦ words_in (piece_of p) ]
 
 -- a fault of the given line
 abbrev pub blame_of : Piece → LineFault → Blame

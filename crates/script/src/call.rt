@@ -2,14 +2,13 @@
 ghost use Rattle.std.specs.Prelude.{◌≡◌};
 ghost use Rattle.grammar.specs.Calls.{call_with, call_in};
 ghost use Rattle.script.specs.CallLines.{Shaped, line_verb, line_words};
-ghost use Rattle.script.specs.Parts.{piece_of, words_left, NearRest, told_word, told_line};
-ghost use Rattle.script.specs.Kept.{Worded};
+ghost use Rattle.script.specs.Parts.{piece_of, words_left, told_word, told_line};
 
-use crate::count::{no_word, one_word, three_words, two_words};
 use crate::fault::{LineFault, WordFault, WrongCount};
 use crate::lines::WordLine;
 use crate::number::number;
 use crate::part::Part;
+use crate::words::Words;
 use rules::call::{Call, Verb};
 use rules::named::Named;
 
@@ -32,39 +31,25 @@ pub(crate) enum CallLine<'a> {
 }
 
 /// The line of a verb and the words behind it.
-fn call_line<'a>(verb: Verb, rest: Option<Part<'a>>) -> Result<CallLine<'a>, WrongCount>
-    requires { NearRest rest }
-    ensures { Shaped verb (words_left rest.entry) result }
+fn call_line<'a>(verb: Verb, mut words: Words<'a>) -> Result<CallLine<'a>, WrongCount>
+    ensures { Shaped verb (words_left words.entry) result }
 {
-    match verb {
-        Verb::Queue => {
-            let (work, pool) = two_words(rest)?;
-            Ok(CallLine::Queue(work, pool))
-        }
-        Verb::Delay => {
-            let (work, pool, ticks) = three_words(rest)?;
-            Ok(CallLine::Delay(work, pool, ticks))
-        }
-        Verb::Advance => Ok(CallLine::Advance(one_word(rest)?)),
-        Verb::Start => Ok(CallLine::Start(one_word(rest)?)),
-        Verb::Sleep => Ok(CallLine::Sleep(one_word(rest)?)),
-        Verb::Wake => Ok(CallLine::Wake(one_word(rest)?)),
-        Verb::Finish => Ok(CallLine::Finish(one_word(rest)?)),
-        Verb::Cancel => Ok(CallLine::Cancel(one_word(rest)?)),
-        Verb::Limit => {
-            let (pool, limit) = two_words(rest)?;
-            Ok(CallLine::Limit(pool, limit))
-        }
-        Verb::Flush => {
-            no_word(rest)?;
-            Ok(CallLine::Flush)
-        }
-        Verb::Collect => Ok(CallLine::Collect(one_word(rest)?)),
-        Verb::Close => {
-            no_word(rest)?;
-            Ok(CallLine::Close)
-        }
-    }
+    let line = match verb {
+        Verb::Queue => CallLine::Queue(words.due()?, words.due()?),
+        Verb::Delay => CallLine::Delay(words.due()?, words.due()?, words.due()?),
+        Verb::Advance => CallLine::Advance(words.due()?),
+        Verb::Start => CallLine::Start(words.due()?),
+        Verb::Sleep => CallLine::Sleep(words.due()?),
+        Verb::Wake => CallLine::Wake(words.due()?),
+        Verb::Finish => CallLine::Finish(words.due()?),
+        Verb::Cancel => CallLine::Cancel(words.due()?),
+        Verb::Limit => CallLine::Limit(words.due()?, words.due()?),
+        Verb::Flush => CallLine::Flush,
+        Verb::Collect => CallLine::Collect(words.due()?),
+        Verb::Close => CallLine::Close,
+    };
+    words.end()?;
+    Ok(line)
 }
 
 impl<'a> CallLine<'a> {
@@ -115,12 +100,9 @@ impl<'a> CallLine<'a> {
 
 /// The call that a line of the body asks for.
 pub(crate) fn read_call<'a>(line: WordLine<'a>) -> Result<Call, LineFault<'a>>
-    requires { Worded line }
     ensures { told_line (piece_of line.entry.text) result ≡ call_in (piece_of line.entry.text) }
 {
-    let Some(verb) = Verb::named(line.first.bytes) else {
-        return Err(LineFault::Verb(line.first));
-    };
+    let verb = Verb::named(line.first.bytes).ok_or(LineFault::Verb(line.first))?;
     let call = call_line(verb, line.rest)?.call()?;
     Ok(call)
 }

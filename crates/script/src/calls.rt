@@ -1,5 +1,6 @@
 //! The calls of a script, one after another.
 ghost use Rattle.std.specs.Prelude.{◌≡◌};
+ghost use Rattle.std.specs.Iterator.{YieldsFirst, item_count};
 ghost use Rattle.grammar.specs.Reading.{rows_behind, calls_of};
 ghost use Rattle.script.specs.Lines.{rows_left};
 ghost use Rattle.script.specs.CallsLeft.{calls_left, NextCall};
@@ -40,12 +41,21 @@ impl<'a> Calls<'a> {
         ensures { NextCall self.old result self.new }
     {
         let mut lines = self.lines;
-        match lines.next_call() {
-            Ok(Some(call)) => {
-                self.lines = lines;
-                Some(call)
-            }
-            _ => None,
-        }
+        let call = lines.next_call().ok().flatten()?;
+        self.lines = lines;
+        Some(call)
+    }
+}
+
+/// The calls in order, each with the number of its line.
+impl<'a> Iterator for Calls<'a> {
+    type Item = NumberedCall;
+
+    ghost next_gives = { YieldsFirst calls_left };
+
+    ghost remaining = { item_count calls_left };
+
+    fn next(&mut self) -> Option<NumberedCall> {
+        self.next_call()
     }
 }

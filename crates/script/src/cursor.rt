@@ -36,7 +36,7 @@ impl<'a> Lines<'a> {
         }
         let rest = &script[at..];
         let n = find(rest, b'\n');
-        let bytes = &rest[0..n];
+        let bytes = &rest[..n];
         self.count += 1;
         self.at = (at + n + 1).min(script.len());
         Some(NumberedLine {

@@ -10,7 +10,7 @@ use rules::refusal::Refusal;
 
 /// The fault of a script: its kind, the number of the line, and the part of the script at fault, if
 /// there is one.
-#[derive(Clone, Copy)]
+#[derive(Clone, Copy, Debug, PartialEq, Eq)]
 pub struct Fault<'a> {
     pub kind: FaultKind,
     pub line: u32,
@@ -43,8 +43,7 @@ pub(crate) enum LineFault<'a> {
 impl<'a> From<WrongCount> for LineFault<'a> {
     ghost from_gives = { λ e r. r ≡ Count };
 
-    fn from(e: WrongCount) -> LineFault<'a> {
-        let WrongCount = e;
+    fn from(_e: WrongCount) -> LineFault<'a> {
         LineFault::Count
     }
 }

@@ -2,22 +2,21 @@
 ghost use Rattle.std.specs.Prelude.{◌≡◌};
 ghost use Rattle.std.specs.Option.{ok_or};
 ghost use Rattle.grammar.specs.Heads.{engine_in, policy_in, store_in};
-ghost use Rattle.script.specs.Kept.{Worded};
 ghost use Rattle.rules.specs.Names.{first_named};
 ghost use Rattle.script.specs.HeadLines.{HeadRest};
 ghost use Rattle.script.specs.Parts.{piece_of, told_word, told_line};
 
-use crate::count::{one_word, three_words, two_words};
 use crate::fault::{LineFault, WordFault};
 use crate::lines::WordLine;
 use crate::number::number;
 use crate::part::Part;
+use crate::words::Words;
 use rules::head::{HeadVerb, PolicyName, StoreName};
 use rules::named::{Named, Spelled};
 use rules::sizes::{Sizes, cap_bound};
 
-/// What stands behind the verb that is due on a line of the head.
-fn head_rest<'a>(line: WordLine<'a>, verb: HeadVerb) -> Result<Option<Part<'a>>, LineFault<'a>>
+/// The words behind the verb that is due on a line of the head.
+fn head_rest<'a>(line: WordLine<'a>, verb: HeadVerb) -> Result<Words<'a>, LineFault<'a>>
     ensures { HeadRest line.entry verb result }
 {
     if verb.is_named(line.first.bytes) {
@@ -36,22 +35,25 @@ fn name<'a, T: Named>(word: Part<'a>) -> Result<T, WordFault<'a>>
 
 /// `engine W P F`: how many works, pools and ticket places.
 pub(crate) fn read_engine<'a>(line: WordLine<'a>) -> Result<Sizes, LineFault<'a>>
-    requires { Worded line }
     ensures { told_line (piece_of line.entry.text) result ≡ engine_in (piece_of line.entry.text) }
 {
-    let rest = head_rest(line, HeadVerb::Engine)?;
-    let (works, pools, places) = three_words(rest)?;
+    let mut words = head_rest(line, HeadVerb::Engine)?;
+    let works = words.due()?;
+    let pools = words.due()?;
+    let places = words.due()?;
+    words.end()?;
     let sizes = Sizes::new(number(works)?, number(pools)?, number(places)?)?;
     Ok(sizes)
 }
 
 /// `policy N B`: the policy and the cap over it.
 pub(crate) fn read_policy<'a>(line: WordLine<'a>) -> Result<(PolicyName, u8), LineFault<'a>>
-    requires { Worded line }
     ensures { told_line (piece_of line.entry.text) result ≡ policy_in (piece_of line.entry.text) }
 {
-    let rest = head_rest(line, HeadVerb::Policy)?;
-    let (policy, bound) = two_words(rest)?;
+    let mut words = head_rest(line, HeadVerb::Policy)?;
+    let policy = words.due()?;
+    let bound = words.due()?;
+    words.end()?;
     let policy = name(policy)?;
     let cap = cap_bound(number(bound)?)?;
     Ok((policy, cap))
@@ -59,10 +61,11 @@ pub(crate) fn read_policy<'a>(line: WordLine<'a>) -> Result<(PolicyName, u8), Li
 
 /// `store S`: the delay store.
 pub(crate) fn read_store<'a>(line: WordLine<'a>) -> Result<StoreName, LineFault<'a>>
-    requires { Worded line }
     ensures { told_line (piece_of line.entry.text) result ≡ store_in (piece_of line.entry.text) }
 {
-    let rest = head_rest(line, HeadVerb::Store)?;
-    let store = name(one_word(rest)?)?;
+    let mut words = head_rest(line, HeadVerb::Store)?;
+    let store = words.due()?;
+    words.end()?;
+    let store = name(store)?;
     Ok(store)
 }

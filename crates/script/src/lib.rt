@@ -4,7 +4,6 @@
 
 mod call;
 pub mod calls;
-mod count;
 mod cursor;
 pub mod fault;
 mod head_lines;
@@ -13,3 +12,4 @@ pub mod lines;
 mod number;
 pub mod part;
 pub mod reader;
+mod words;

@@ -1,8 +1,10 @@
 //! A script as lines.
-ghost use Rattle.std.specs.Prelude.{◌≡◌, ◌+◌, ◌≤◌, length, drop};
-ghost use Rattle.grammar.specs.Text.{lines};
+ghost use Rattle.std.specs.Prelude.{◌≡◌, ◌+◌, ◌≤◌, ◌∷◌, length, drop};
+ghost use Rattle.grammar.specs.Text.{lines, words_in};
+ghost use Rattle.script.specs.Parts.{piece_of, words_left};
 
 use crate::part::Part;
+use crate::words::Words;
 use grammar::head::Head;
 
 /// A script that is read line by line: the lines up to the place `at` are behind.
@@ -28,18 +30,20 @@ pub(crate) struct NumberedLine<'a> {
     pub(crate) text: Part<'a>,
 }
 
-/// A line that is not skipped: its number, its part of the script, its first word, and what stands
-/// behind the space after that.
+/// A line that is not skipped: its number, its part of the script, its first word, and the words
+/// behind it.
 #[derive(Clone, Copy)]
 pub(crate) struct WordLine<'a> {
     pub(crate) number: u32,
     pub(crate) text: Part<'a>,
     pub(crate) first: Part<'a>,
-    pub(crate) rest: Option<Part<'a>>,
+    pub(crate) rest: Words<'a>,
+    /// The words of its text are the first one and the rest.
+    ghost worded: { words_in (piece_of text) ≡ piece_of first ∷ words_left rest },
 }
 
 /// What an admitted script begins with, and how many of its lines are skipped.
-#[derive(Clone, Copy)]
+#[derive(Clone, Copy, Debug, PartialEq, Eq)]
 pub struct Outline {
     pub head: Head,
     pub skipped: u32,

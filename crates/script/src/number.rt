@@ -42,8 +42,5 @@ pub(crate) fn number_of(word: &[u8]) -> Option<u32>
 pub(crate) fn number<'a>(word: Part<'a>) -> Result<u32, WordFault<'a>>
     ensures { told_word result ≡ number_in (piece_of word.entry) }
 {
-    match number_of(word.bytes) {
-        Some(n) => Ok(n),
-        None => Err(WordFault { word }),
-    }
+    number_of(word.bytes).ok_or(WordFault { word })
 }

@@ -1,4 +1,5 @@
 //! Parts of a script, and how long they may be.
+ghost use Rattle.std.specs.Prelude.{◌+◌, ◌≤◌, length};
 
 /// The most bytes that a script may have.
 pub const MAX_SCRIPT: usize = 32_768;
@@ -7,8 +8,10 @@ pub const MAX_SCRIPT: usize = 32_768;
 pub const MAX_LINE: usize = 80;
 
 /// A part of a script: the place at which it begins, and its bytes.
-#[derive(Clone, Copy)]
+#[derive(Clone, Copy, Debug, PartialEq, Eq)]
 pub struct Part<'a> {
     pub at: usize,
     pub bytes: &'a [u8],
+    /// It ends within the longest script, so that no place overflows.
+    ghost near: { at + length bytes.now ≤ 32768 },
 }

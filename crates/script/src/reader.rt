@@ -31,14 +31,11 @@ fn located<'a, T>(line: WordLine<'a>, read: Result<T, LineFault<'a>>) -> Result<
 fn head_line<'a>(lines: &mut Lines<'a>) -> Result<WordLine<'a>, Fault<'a>>
     ensures { HeadNext lines.old result lines.new }
 {
-    match lines.next_words()? {
-        Some(line) => Ok(line),
-        None => Err(Fault {
-            kind: FaultKind::UnknownVerb,
-            line: lines.count + 1,
-            part: None,
-        }),
-    }
+    lines.next_words()?.ok_or(Fault {
+        kind: FaultKind::UnknownVerb,
+        line: lines.count + 1,
+        part: None,
+    })
 }
 
 impl<'a> Lines<'a> {

@@ -1,27 +1,19 @@
-use Rattle.std.proofs.Common.{length, arith}
+use Rattle.std.proofs.Common.{ℕ, ◌<◌, subst, arith}
 use Rattle.std.proofs.lemmas.List.{length-map}
-use Rattle.list.specs.Lists.{members}
-use Rattle.list.proofs.Counting.{within}
-use Rattle.list.proofs.Holding.{back_in, room, in_slice}
+use Rattle.std.specs.Option.{IfSome}
+use Rattle.list.proofs.Holding.{back_within, room}
 use Rattle.list.proofs.Moving.{pushed}
 use Rattle.list.proofs.linked_list.LinkedList.push_back.Goals as goal
 
-pub link-requires : goal.link-requires
-link-requires g c =
-    let m = g.N.Node in
-    let s = c.requires.sound in
-    let list = c.args.self.now in
-    let ns = c.args.nodes.now in
-    let long = length-map ns m.after in
-    record {
-      inside = c.requires.inside;
-      prev = within list.back (members m.after ns list) (length ns) (back_in s) (in_slice m.after m.before ns list s);
-      next = tt;
-      room = omega (arith, room s c.args.i (omega arith) c.requires.new);
-    }
+pub join-requires-clause-a : goal.join-requires-clause-a
+join-requires-clause-a g c =
+    let P : ℕ → Type 0 = λ n. IfSome c.args.self.now.back (λ k. k < n) in
+    subst P (length-map c.args.nodes.now g.N.Node.after) (back_within c.requires.sound)
+
+pub overflow_add-self : goal.overflow_add-self
+overflow_add-self g c =
+    let long = length-map c.args.nodes.now g.N.Node.after in
+    omega (arith, room c.requires.sound c.args.i (omega arith) c.requires.new, c.join.ensures.count, c.join-2.ensures.count)
 
 pub returns : goal.returns
-returns g c =
-    let m = g.N.Node in
-    pushed m.after m.before m.bare c.args.nodes.now c.link.new.nodes c.args.self.now c.link.new.self c.requires.sound c.link.auto.nodes
-    c.args.i c.requires.inside c.requires.new c.link.ensures.links c.link.ensures.count
+returns g c = pushed c.requires.sound c.requires.inside c.requires.new c.join.ensures c.join-2.ensures (omega arith)

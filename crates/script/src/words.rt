@@ -1,0 +1,56 @@
+//! The words of a text, one after another.
+ghost use Rattle.std.specs.Prelude.{◌≡◌, ◌<◌, [], ◌∷◌, length, MatchResult};
+ghost use Rattle.grammar.specs.Text.{words_in};
+ghost use Rattle.script.specs.Parts.{piece_of, words_left};
+
+use crate::fault::WrongCount;
+use crate::line::find;
+use crate::part::Part;
+
+/// The words that are left of a line: those of what stands behind a space, if one was there.
+#[derive(Clone, Copy)]
+pub(crate) struct Words<'a> {
+    left: Option<Part<'a>>,
+}
+
+impl<'a> Words<'a> {
+    /// The next word, which is due.
+    pub(crate) fn due(&mut self) -> Result<Part<'a>, WrongCount>
+        ensures { MatchResult result (λ word. words_left self.old ≡ piece_of word ∷ words_left self.new) (λ _. words_left self.old ≡ []) }
+    {
+        let (word, behind) = cut(self.left.ok_or(WrongCount)?);
+        *self = behind;
+        Ok(word)
+    }
+
+    /// No further word is due.
+    #[tactic(auto, using(crate::proofs::Cutting::some_left))]
+    pub(crate) fn end(self) -> Result<(), WrongCount>
+        ensures { MatchResult result (λ _. words_left self.entry ≡ []) (λ _. 0 < length (words_left self.entry)) }
+    {
+        match self.left {
+            None => Ok(()),
+            Some(_) => Err(WrongCount),
+        }
+    }
+}
+
+/// The first word of a text, and the words behind it.
+pub(crate) fn cut<'a>(text: Part<'a>) -> (Part<'a>, Words<'a>)
+    ensures { words_in (piece_of text.entry) ≡ piece_of result.0 ∷ words_left result.1 }
+{
+    let bytes = text.bytes;
+    let n = find(bytes, b' ');
+    let first = Part {
+        at: text.at,
+        bytes: &bytes[..n],
+    };
+    if n == bytes.len() {
+        return (first, Words { left: None });
+    }
+    let rest = Part {
+        at: text.at + n + 1,
+        bytes: &bytes[n + 1..],
+    };
+    (first, Words { left: Some(rest) })
+}
