@@ -1,7 +1,10 @@
 -- The number that a word writes.
-use Rattle.std.specs.Prelude.{ℕ, ◌+◌, ◌-◌, ◌*◌, ◌^◌, cond, List, [], ◌∷◌, Some, None, Option, ◌==◌, nat_lt}
+use Rattle.std.specs.Prelude.{ℕ, ◌+◌, ◌-◌, ◌*◌, ◌^◌, Bool, cond, List, [], ◌∷◌, Some, None, Option, ◌==◌, nat_lt}
+use Rattle.std.specs.Char.{is_ascii_digit}
+
 -- the digits 0 to 9, which are the bytes 48 to 57
-pub use Rattle.std.specs.Char.{is_ascii_digit as is_digit}
+abbrev pub is_digit : ℕ → Bool
+is_digit c = is_ascii_digit c
 
 -- the number n, and then the digits of what is left, up to 4,294,967,295
 abbrev pub read_on : ℕ → List ℕ → Option ℕ

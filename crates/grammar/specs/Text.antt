@@ -1,7 +1,6 @@
 -- The lines of a script and the words of a line.
 use Rattle.std.specs.Prelude.{ℕ, ◌+◌, Bool, true, cond, List, [], ◌∷◌, length, ◌==◌}
--- c in front of the first of the parts: `grow c parts`
-pub use Rattle.std.specs.List.{onto_first as grow}
+use Rattle.std.specs.List.{onto_first}
 
 -- a piece of a script: the place at which it begins, and its bytes
 pub record Piece : Type 0 where
@@ -12,6 +11,10 @@ pub record Piece : Type 0 where
 pub record Row : Type 0 where
   pub number : ℕ
   pub text : Piece
+
+-- c in front of the first of the parts; of no parts, the one part c
+abbrev pub grow : ℕ → List (List ℕ) → List (List ℕ)
+grow c ws = onto_first c ws
 
 -- a text in parts: each b ends one; after the last byte come the parts e
 abbrev pub parts : ℕ → List (List ℕ) → List ℕ → List (List ℕ)

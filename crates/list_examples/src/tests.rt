@@ -1,5 +1,4 @@
 //! The operations on lists of both kinds of records: each test is one text that runs on either.
-ghost use Rattle.std.specs.Prelude.{◌≡◌, length};
 
 use crate::moves::move_front;
 use crate::place::Place;
@@ -11,9 +10,7 @@ use std::mem::size_of;
 use std::process::Abort;
 
 /// A record goes from the middle of a list, then one from its end and one from its front.
-fn removals<N: Node>(rt: &impl Abort, nodes: &mut [N])
-    requires { length nodes.old ≡ 6 }
-{
+fn removals<N: Node>(rt: &impl Abort, nodes: &mut [N; 6]) {
     let mut list = LinkedList::new();
     list.push_back(nodes, 2);
     list.push_back(nodes, 0);
@@ -31,9 +28,7 @@ fn removals<N: Node>(rt: &impl Abort, nodes: &mut [N])
 }
 
 /// The only record of a list goes, and comes again.
-fn last_one<N: Node>(rt: &impl Abort, nodes: &mut [N])
-    requires { length nodes.old ≡ 6 }
-{
+fn last_one<N: Node>(rt: &impl Abort, nodes: &mut [N; 6]) {
     let mut list = LinkedList::new();
     assert_eq!(rt; list.pop_front(nodes), None);
     list.push_back(nodes, 4);
@@ -45,9 +40,7 @@ fn last_one<N: Node>(rt: &impl Abort, nodes: &mut [N])
 }
 
 /// Records go from one list through the slice to another, until none is left.
-fn moves<N: Node>(rt: &impl Abort, nodes: &mut [N])
-    requires { length nodes.old ≡ 6 }
-{
+fn moves<N: Node>(rt: &impl Abort, nodes: &mut [N; 6]) {
     let mut held = LinkedList::new();
     held.push_back(nodes, 4);
     held.push_back(nodes, 1);

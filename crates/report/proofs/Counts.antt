@@ -1,8 +1,6 @@
--- Counts of calls: a script has few calls, and the step from one call to the next.
-use Rattle.std.proofs.Common.{◌≡◌, ℕ, suc, ◌+◌, ◌<◌, ◌≤◌, Bool, cond, eqb, ltb, List, [], ◌∷◌, length, get_or, drop, set, Ok, Err, Result, refl, ap, arith}
+-- Counts of calls: a script has few calls.
+use Rattle.std.proofs.Common.{◌≡◌, ℕ, suc, ◌+◌, ◌≤◌, Bool, cond, eqb, ltb, List, [], ◌∷◌, length, drop, Ok, Err, Result, refl, ap, arith}
 use Rattle.std.proofs.lemmas.List.{length-drop}
-use Rattle.std.proofs.lemmas.Grind.{common_steps}
-use Rattle.std.proofs.lemmas.Bool.Decides.{nat_tests}
 use Rattle.rules.specs.declared.call.Call.{Call}
 use Rattle.rules.specs.Format.{verb_index, verb_of}
 use Rattle.grammar.specs.declared.numbered.NumberedCall.{NumberedCall}
@@ -61,7 +59,3 @@ count_le k (c ∷ cs) = omega (arith, count_one (eqb (verb_index (verb_of c.call
 -- so every count fits its type
 pub count_small : (k : ℕ) (s : Calls) → count_at k (calls_left s) ≤ 32768
 count_small k s = omega (arith, count_le k (calls_left s), few_calls s)
-
--- one call is counted at the place of its verb
-pub count_more : (counts : List ℕ) (c : NumberedCall) (cs : List NumberedCall) (i k : ℕ) → i ≡ verb_index (verb_of c.call) → i < length counts → get_or (set counts i (get_or counts i 0 + 1)) k 0 + count_at k cs ≡ get_or counts k 0 + count_at k (c ∷ cs)
-count_more counts c cs i k is within = grind (arith, common_steps, nat_tests)

@@ -17,8 +17,8 @@ use script::lines::{Calls, Outline};
 use script::reader::read;
 use std::alloc::{AllocError, Global};
 
-/// Writes the report on a faulty script: one line with the number of the fault and the number of its
-/// line.
+/// Writes the report on a faulty script at the end of the text: one line with the number of the
+/// fault and the number of its line.
 fn write_fault(text: &mut String, fault: Fault) -> Result<(), AllocError>
     ensures { OnOk result (string_bytes text.new ≡ string_bytes text.old ++ fault_report (failure_of fault.entry)) }
 {
@@ -31,7 +31,7 @@ fn write_fault(text: &mut String, fault: Fault) -> Result<(), AllocError>
     )
 }
 
-/// Writes the lines on the sizes of the engine.
+/// Writes the lines on the sizes of the engine at the end of the text.
 fn write_sizes(text: &mut String, sizes: Sizes) -> Result<(), AllocError>
     ensures { OnOk result (string_bytes text.new ≡ string_bytes text.old ++ sizes_report sizes) }
 {
@@ -42,7 +42,7 @@ fn write_sizes(text: &mut String, sizes: Sizes) -> Result<(), AllocError>
     )
 }
 
-/// Writes the lines on the head of a script.
+/// Writes the lines on the head of a script at the end of the text.
 fn write_head(text: &mut String, head: Head) -> Result<(), AllocError>
     ensures { OnOk result (string_bytes text.new ≡ string_bytes text.old ++ head_report head) }
 {
@@ -65,7 +65,7 @@ fn tally(calls: Calls) -> [u32; 12]
     counts
 }
 
-/// Writes the lines on the calls, a line for each verb.
+/// Writes the lines on the calls at the end of the text, a line for each verb.
 fn write_calls(text: &mut String, calls: Calls) -> Result<(), AllocError>
     ensures { OnOk result (string_bytes text.new ≡ string_bytes text.old ++ calls_report (calls_left calls.entry)) }
 {
@@ -76,7 +76,7 @@ fn write_calls(text: &mut String, calls: Calls) -> Result<(), AllocError>
     Ok(())
 }
 
-/// Writes the report on an admitted script with this outline and these calls.
+/// Writes the report on an admitted script with this outline and these calls at the end of the text.
 #[tactic(auto, using(std::proofs::lemmas::List::append_assoc))]
 fn write_admitted(text: &mut String, outline: Outline, calls: Calls) -> Result<(), AllocError>
     ensures { OnOk result (string_bytes text.new ≡ string_bytes text.old ++ admitted_report outline.head (calls_left calls.entry) outline.skipped) }

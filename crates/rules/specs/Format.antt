@@ -134,7 +134,7 @@ policy_text policy.Free = codes "free"
 policy_text policy.Percpu = codes "percpu"
 policy_text policy.Ranked = codes "ranked"
 
--- the policies
+-- the policies, in the order in which they are searched
 abbrev pub policies : List PolicyName
 policies = policy.Free ∷ policy.Percpu ∷ policy.Ranked ∷ []
 
@@ -147,7 +147,7 @@ abbrev pub store_text : StoreName → List ℕ
 store_text store.Heap = codes "heap"
 store_text store.Wheel = codes "wheel"
 
--- the delay stores
+-- the delay stores, in the order in which they are searched
 abbrev pub stores : List StoreName
 stores = store.Heap ∷ store.Wheel ∷ []
 

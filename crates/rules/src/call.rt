@@ -105,7 +105,7 @@ impl fmt::Display for Verb {
     ghost output = { λ verb. Just (verb_text verb) };
 
     fn fmt<W: fmt::Write>(&self, f: &mut fmt::Formatter<W>) -> fmt::Result {
-        f.write_str(Verb::text(*self))
+        f.write_str(self.text())
     }
 }
 

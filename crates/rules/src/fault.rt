@@ -24,7 +24,7 @@ pub enum FaultKind {
     Refused(Refusal),
 }
 
-/// The engine that the head asks for is refused.
+/// A refusal as the fault that carries it.
 impl From<Refusal> for FaultKind {
     ghost from_gives = { λ refusal kind. kind ≡ Refused refusal };
 

@@ -53,7 +53,7 @@ impl fmt::Display for HeadVerb {
     ghost output = { λ verb. Just (head_text verb) };
 
     fn fmt<W: fmt::Write>(&self, f: &mut fmt::Formatter<W>) -> fmt::Result {
-        f.write_str(HeadVerb::text(*self))
+        f.write_str(self.text())
     }
 }
 
@@ -73,7 +73,7 @@ impl fmt::Display for PolicyName {
     ghost output = { λ name. Just (policy_text name) };
 
     fn fmt<W: fmt::Write>(&self, f: &mut fmt::Formatter<W>) -> fmt::Result {
-        f.write_str(PolicyName::text(*self))
+        f.write_str(self.text())
     }
 }
 
@@ -102,7 +102,7 @@ impl fmt::Display for StoreName {
     ghost output = { λ name. Just (store_text name) };
 
     fn fmt<W: fmt::Write>(&self, f: &mut fmt::Formatter<W>) -> fmt::Result {
-        f.write_str(StoreName::text(*self))
+        f.write_str(self.text())
     }
 }
 

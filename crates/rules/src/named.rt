@@ -25,7 +25,7 @@ pub trait Named: Spelled + 'static {
     /// Its values, in the order in which they are searched.
     ghost values: { List Self };
 
-    /// Its values.
+    /// Its values, in the order in which they are searched.
     fn all() -> &'static [Self]
         ensures { result.now ≡ values };
 

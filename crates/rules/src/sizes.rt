@@ -43,9 +43,8 @@ fn is_within(n: u32, most: u32) -> bool
 pub fn cap_bound(bound: u32) -> Result<u8, Refusal>
     ensures { result ≡ capped bound }
 {
-    if is_within(bound, 255) {
-        Ok(bound as u8)
-    } else {
-        Err(Refusal::CapOutOfRange)
+    match u8::try_from(bound) {
+        Ok(cap) if cap > 0 => Ok(cap),
+        _ => Err(Refusal::CapOutOfRange),
     }
 }

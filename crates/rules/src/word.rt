@@ -56,6 +56,6 @@ impl fmt::Display for Word {
     ghost output = { λ word. Just (word_text word) };
 
     fn fmt<W: fmt::Write>(&self, f: &mut fmt::Formatter<W>) -> fmt::Result {
-        f.write_str(Word::text(*self))
+        f.write_str(self.text())
     }
 }

@@ -4,13 +4,13 @@ use Rattle.script.specs.declared.fault.Fault.{Fault}
 use Rattle.script.specs.declared.lines.Lines.{Lines}
 use Rattle.script.specs.declared.lines.WordLine.{WordLine}
 use Rattle.grammar.specs.Text.{Row, skips}
-use Rattle.script.specs.Parts.{piece_of, failure_of}
-use Rattle.script.specs.Lines.{lines_left, rows_left}
+use Rattle.script.specs.Parts.{failure_of}
+use Rattle.script.specs.Lines.{lines_left, rows_left, row_of}
 use Rattle.grammar.specs.Reading.{next_row}
 
 -- the row of a line
 abbrev pub word_row : WordLine → Row
-word_row l = record { number = l.number; text = piece_of l.text }
+word_row l = row_of l.line
 
 -- the line l is the next one
 pub record Found (s : Lines) (l : WordLine) (t : Lines) : Type 0 where

@@ -100,7 +100,7 @@ impl<'a> CallLine<'a> {
 
 /// The call that a line of the body asks for.
 pub(crate) fn read_call<'a>(line: WordLine<'a>) -> Result<Call, LineFault<'a>>
-    ensures { told_line (piece_of line.entry.text) result ≡ call_in (piece_of line.entry.text) }
+    ensures { told_line (piece_of line.entry.line.text) result ≡ call_in (piece_of line.entry.line.text) }
 {
     let verb = Verb::named(line.first.bytes).ok_or(LineFault::Verb(line.first))?;
     let call = call_line(verb, line.rest)?.call()?;

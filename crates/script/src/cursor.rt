@@ -55,12 +55,7 @@ impl<'a> Lines<'a> {
                 return Err(too_long(line));
             }
             match line_of(line.text) {
-                Line::Words(first, rest) => return Ok(Some(WordLine {
-                    number: line.number,
-                    text: line.text,
-                    first,
-                    rest,
-                })),
+                Line::Words(first, rest) => return Ok(Some(WordLine { line, first, rest })),
                 Line::Empty | Line::Comment(_) => self.skipped += 1,
             }
         }

@@ -2,8 +2,10 @@
 ghost use Rattle.std.specs.Prelude.{◌≡◌};
 ghost use Rattle.script.specs.declared.fault.LineFault.TheVariants.{Count, Word, Refused};
 ghost use Rattle.script.specs.Parts.{piece_of, blame_of, failure_of};
+ghost use Rattle.script.specs.Lines.{row_of};
 ghost use Rattle.grammar.specs.Faults.{in_row};
 
+use crate::lines::NumberedLine;
 use crate::part::Part;
 use rules::fault::FaultKind;
 use rules::refusal::Refusal;
@@ -65,19 +67,19 @@ impl<'a> From<Refusal> for LineFault<'a> {
 }
 
 impl<'a> LineFault<'a> {
-    /// The fault of the script, where the line is its line with this number.
-    pub(crate) fn in_line(self, number: u32, line: Part<'a>) -> Fault<'a>
-        ensures { failure_of result ≡ in_row (record { number = number; text = piece_of line.entry }) (blame_of (piece_of line.entry) self.entry) }
+    /// The fault of the script, where this is its line.
+    pub(crate) fn in_line(self, line: NumberedLine<'a>) -> Fault<'a>
+        ensures { failure_of result ≡ in_row (row_of line.entry) (blame_of (piece_of line.entry.text) self.entry) }
     {
         let (kind, part) = match self {
             LineFault::Verb(word) => (FaultKind::UnknownVerb, word),
-            LineFault::Count => (FaultKind::WordCount, line),
+            LineFault::Count => (FaultKind::WordCount, line.text),
             LineFault::Word(fault) => (FaultKind::BadWord, fault.word),
-            LineFault::Refused(refusal) => (FaultKind::Refused(refusal), line),
+            LineFault::Refused(refusal) => (FaultKind::from(refusal), line.text),
         };
         Fault {
             kind,
-            line: number,
+            line: line.number,
             part: Some(part),
         }
     }

@@ -30,16 +30,14 @@ pub(crate) struct NumberedLine<'a> {
     pub(crate) text: Part<'a>,
 }
 
-/// A line that is not skipped: its number, its part of the script, its first word, and the words
-/// behind it.
+/// A line that is not skipped, its first word, and the words behind it.
 #[derive(Clone, Copy)]
 pub(crate) struct WordLine<'a> {
-    pub(crate) number: u32,
-    pub(crate) text: Part<'a>,
+    pub(crate) line: NumberedLine<'a>,
     pub(crate) first: Part<'a>,
     pub(crate) rest: Words<'a>,
     /// The words of its text are the first one and the rest.
-    ghost worded: { words_in (piece_of text) ≡ piece_of first ∷ words_left rest },
+    ghost worded: { words_in (piece_of line.text) ≡ piece_of first ∷ words_left rest },
 }
 
 /// What an admitted script begins with, and how many of its lines are skipped.

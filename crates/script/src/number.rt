@@ -14,11 +14,7 @@ fn read_on(n: u32, word: &[u8]) -> Option<u32>
     match word {
         [] => Some(n),
         [d @ b'0'..=b'9', rest @ ..] => {
-            let d = u32::from(*d - b'0');
-            if n > (u32::MAX - d) / 10 {
-                return None;
-            }
-            read_on(n * 10 + d, rest)
+            read_on(n.checked_mul(10)?.checked_add(u32::from(*d - b'0'))?, rest)
         }
         _ => None,
     }

@@ -4,26 +4,26 @@ ghost use Rattle.grammar.specs.Grammar.{Admitted};
 ghost use Rattle.grammar.specs.Places.{PartStands};
 ghost use Rattle.grammar.specs.Reading.{calls_of};
 ghost use Rattle.grammar.specs.Faults.{in_row, passed};
-ghost use Rattle.script.specs.Kept.{word_row};
+ghost use Rattle.script.specs.Lines.{row_of};
 ghost use Rattle.script.specs.Parts.{piece_of, told, told_line, failure_of};
 ghost use Rattle.script.specs.Outcome.{HeadNext, HeadRead, CallRead, Checked, Outcome, okay};
 
 use crate::call::read_call;
 use crate::fault::{Fault, LineFault};
 use crate::head_lines::{read_engine, read_policy, read_store};
-use crate::lines::{Lines, Outline, WordLine};
+use crate::lines::{Lines, NumberedLine, Outline, WordLine};
 use crate::part::MAX_SCRIPT;
 use grammar::head::Head;
 use grammar::numbered::NumberedCall;
 use rules::fault::FaultKind;
 
 /// What was read of a line, with a fault of the line as one of the script.
-fn located<'a, T>(line: WordLine<'a>, read: Result<T, LineFault<'a>>) -> Result<T, Fault<'a>>
-    ensures { told failure_of result ≡ passed (in_row (word_row line.entry)) (told_line (piece_of line.entry.text) read.entry) okay }
+fn located<'a, T>(line: NumberedLine<'a>, read: Result<T, LineFault<'a>>) -> Result<T, Fault<'a>>
+    ensures { told failure_of result ≡ passed (in_row (row_of line.entry)) (told_line (piece_of line.entry.text) read.entry) okay }
 {
     match read {
         Ok(value) => Ok(value),
-        Err(fault) => Err(fault.in_line(line.number, line.text)),
+        Err(fault) => Err(fault.in_line(line)),
     }
 }
 
@@ -40,20 +40,22 @@ fn head_line<'a>(lines: &mut Lines<'a>) -> Result<WordLine<'a>, Fault<'a>>
 
 impl<'a> Lines<'a> {
     /// The next call with the number of its line; none at the end.
+    #[tactic(auto, using(crate::proofs::Checking::line_fails, crate::proofs::Checking::call_fails))]
     pub(crate) fn next_call(&mut self) -> Result<Option<NumberedCall>, Fault<'a>>
         ensures { CallRead self.old result self.new }
     {
         let Some(line) = self.next_words()? else {
             return Ok(None);
         };
-        let call = located(line, read_call(line))?;
+        let call = located(line.line, read_call(line))?;
         Ok(Some(NumberedCall {
-            line: line.number,
+            line: line.line.number,
             call,
         }))
     }
 
     /// Reads calls up to the end of the script, in search of a fault.
+    #[tactic(auto, using(crate::proofs::Checking::checking_more))]
     fn check_calls(&mut self) -> Result<(), Fault<'a>>
         ensures { Checked self.old result self.new }
     {
@@ -67,11 +69,11 @@ fn read_head<'a>(lines: &mut Lines<'a>) -> Result<Head, Fault<'a>>
     ensures { HeadRead lines.old result lines.new }
 {
     let first = head_line(lines)?;
-    let sizes = located(first, read_engine(first))?;
+    let sizes = located(first.line, read_engine(first))?;
     let second = head_line(lines)?;
-    let (policy, cap) = located(second, read_policy(second))?;
+    let (policy, cap) = located(second.line, read_policy(second))?;
     let third = head_line(lines)?;
-    let store = located(third, read_store(third))?;
+    let store = located(third.line, read_store(third))?;
     Ok(Head {
         sizes,
         policy,

@@ -14,7 +14,7 @@ pub(crate) struct Words<'a> {
 }
 
 impl<'a> Words<'a> {
-    /// The next word, which is due.
+    /// The next word; that none is left is a wrong count.
     pub(crate) fn due(&mut self) -> Result<Part<'a>, WrongCount>
         ensures { MatchResult result (λ word. words_left self.old ≡ piece_of word ∷ words_left self.new) (λ _. words_left self.old ≡ []) }
     {
@@ -23,7 +23,7 @@ impl<'a> Words<'a> {
         Ok(word)
     }
 
-    /// No further word is due.
+    /// That no word is left; one that is left is a wrong count.
     #[tactic(auto, using(crate::proofs::Cutting::some_left))]
     pub(crate) fn end(self) -> Result<(), WrongCount>
         ensures { MatchResult result (λ _. words_left self.entry ≡ []) (λ _. 0 < length (words_left self.entry)) }
@@ -36,6 +36,7 @@ impl<'a> Words<'a> {
 }
 
 /// The first word of a text, and the words behind it.
+#[tactic(auto, using(crate::proofs::Cutting::cut_last, crate::proofs::Cutting::cut_more))]
 pub(crate) fn cut<'a>(text: Part<'a>) -> (Part<'a>, Words<'a>)
     ensures { words_in (piece_of text.entry) ≡ piece_of result.0 ∷ words_left result.1 }
 {
