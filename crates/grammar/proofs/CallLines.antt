@@ -27,15 +27,15 @@ numbers_of_lem v ns e =
     each_of 0 (arity v) ns e ∙ all
 
 -- the verb and the numbers of a call make it again
-remade : (c : Call) → call_of (verb_of c) (numbers_of c) ≡ c
+remade : (c : Call ℕ) → call_of (verb_of c) (numbers_of c) ≡ c
 remade c = search rules
 
 -- and the verb asks for as many numbers
-numbers_count : (c : Call) → length (numbers_of c) ≡ arity (verb_of c)
+numbers_count : (c : Call ℕ) → length (numbers_of c) ≡ arity (verb_of c)
 numbers_count c = search rules
 
 -- the line writes the call, with numbers below 2 ^ 32
-abbrev pub CallLine : List ℕ → Call → Type 0
+abbrev pub CallLine : List ℕ → Call ℕ → Type 0
 CallLine l c = (l ≡ written c) × All (λ n. n < 2 ^ 32) (numbers_of c)
 
 -- a verb and the decimals of as many numbers as it asks for write the call
@@ -65,7 +65,7 @@ call_sound script p h =
     rw w.are says
 
 -- and what a call is written as is read as the call
-pub call_complete : (p : Piece) (c : Call) → CallLine p.bytes c → call_in p ≡ Ok c
+pub call_complete : (p : Piece) (c : Call ℕ) → CallLine p.bytes c → call_in p ≡ Ok c
 call_complete p c h =
     let v = verb_of c in
     let ns = numbers_of c in

@@ -24,31 +24,31 @@ pub enum Verb {
 }
 
 /// A call with its numbers. Any numbers can be written down: a call that does not fit is refused
-/// when it is made.
+/// when it is made. Where the numbers are still words, `N` is what a word is.
 #[derive(Clone, Copy, Debug, PartialEq, Eq)]
-pub enum Call {
+pub enum Call<N = u32> {
     /// A work enters a pool.
-    Queue { work: u32, pool: u32 },
+    Queue { work: N, pool: N },
     /// A work enters a pool after so many ticks.
-    Delay { work: u32, pool: u32, ticks: u32 },
+    Delay { work: N, pool: N, ticks: N },
     /// The clock moves on to a tick.
-    Advance { tick: u32 },
+    Advance { tick: N },
     /// A queued work of the pool starts.
-    Start { pool: u32 },
+    Start { pool: N },
     /// A running work goes to sleep.
-    Sleep { work: u32 },
+    Sleep { work: N },
     /// A sleeping work wakes.
-    Wake { work: u32 },
+    Wake { work: N },
     /// The run of a work ends.
-    Finish { work: u32 },
+    Finish { work: N },
     /// A waiting work is withdrawn.
-    Cancel { work: u32 },
+    Cancel { work: N },
     /// A pool takes another limit.
-    Limit { pool: u32, limit: u32 },
+    Limit { pool: N, limit: N },
     /// A ticket is asked for.
     Flush,
     /// The ticket at a place is given back.
-    Collect { place: u32 },
+    Collect { place: N },
     /// The engine is shut.
     Close,
 }
@@ -119,7 +119,7 @@ impl Named for Verb {
     }
 }
 
-impl Call {
+impl<N> Call<N> {
     /// The verb of the call.
     pub fn verb(&self) -> Verb
         ensures { result ≡ verb_of self.now }

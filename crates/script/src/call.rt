@@ -1,7 +1,9 @@
 //! The lines of the body of a script.
-ghost use Rattle.std.specs.Prelude.{◌≡◌};
+ghost use Rattle.std.specs.Prelude.{◌≡◌, map};
+ghost use Rattle.rules.specs.Format.{verb_of};
 ghost use Rattle.grammar.specs.Calls.{call_with, call_in};
-ghost use Rattle.script.specs.CallLines.{Shaped, line_verb, line_words};
+ghost use Rattle.grammar.specs.Grammar.{numbers_of};
+ghost use Rattle.script.specs.CallLines.{Shaped};
 ghost use Rattle.script.specs.Parts.{piece_of, words_left, told_word, told_line};
 
 use crate::fault::{LineFault, WordFault, WrongCount};
@@ -12,90 +14,83 @@ use crate::words::Words;
 use rules::call::{Call, Verb};
 use rules::named::Named;
 
-/// A line of the body: its verb, with as many words as the verb takes, in their order. The words are
-/// parts of the script, and not yet known to be numbers.
-#[derive(Clone, Copy)]
-pub(crate) enum CallLine<'a> {
-    Queue(Part<'a>, Part<'a>),
-    Delay(Part<'a>, Part<'a>, Part<'a>),
-    Advance(Part<'a>),
-    Start(Part<'a>),
-    Sleep(Part<'a>),
-    Wake(Part<'a>),
-    Finish(Part<'a>),
-    Cancel(Part<'a>),
-    Limit(Part<'a>, Part<'a>),
-    Flush,
-    Collect(Part<'a>),
-    Close,
-}
-
-/// The line of a verb and the words behind it.
-fn call_line<'a>(verb: Verb, mut words: Words<'a>) -> Result<CallLine<'a>, WrongCount>
+/// The line of a verb and the words behind it: a call that has as many words as the verb takes, in
+/// their order, for its numbers. The words are parts of the script, and not yet known to be numbers.
+fn call_line<'a>(verb: Verb, mut words: Words<'a>) -> Result<Call<Part<'a>>, WrongCount>
     ensures { Shaped verb (words_left words.entry) result }
 {
     let line = match verb {
-        Verb::Queue => CallLine::Queue(words.due()?, words.due()?),
-        Verb::Delay => CallLine::Delay(words.due()?, words.due()?, words.due()?),
-        Verb::Advance => CallLine::Advance(words.due()?),
-        Verb::Start => CallLine::Start(words.due()?),
-        Verb::Sleep => CallLine::Sleep(words.due()?),
-        Verb::Wake => CallLine::Wake(words.due()?),
-        Verb::Finish => CallLine::Finish(words.due()?),
-        Verb::Cancel => CallLine::Cancel(words.due()?),
-        Verb::Limit => CallLine::Limit(words.due()?, words.due()?),
-        Verb::Flush => CallLine::Flush,
-        Verb::Collect => CallLine::Collect(words.due()?),
-        Verb::Close => CallLine::Close,
+        Verb::Queue => Call::Queue {
+            work: words.due()?,
+            pool: words.due()?,
+        },
+        Verb::Delay => Call::Delay {
+            work: words.due()?,
+            pool: words.due()?,
+            ticks: words.due()?,
+        },
+        Verb::Advance => Call::Advance { tick: words.due()? },
+        Verb::Start => Call::Start { pool: words.due()? },
+        Verb::Sleep => Call::Sleep { work: words.due()? },
+        Verb::Wake => Call::Wake { work: words.due()? },
+        Verb::Finish => Call::Finish { work: words.due()? },
+        Verb::Cancel => Call::Cancel { work: words.due()? },
+        Verb::Limit => Call::Limit {
+            pool: words.due()?,
+            limit: words.due()?,
+        },
+        Verb::Flush => Call::Flush,
+        Verb::Collect => Call::Collect {
+            place: words.due()?,
+        },
+        Verb::Close => Call::Close,
     };
     words.end()?;
     Ok(line)
 }
 
-impl<'a> CallLine<'a> {
-    /// The call that the line asks for.
-    fn call(self) -> Result<Call, WordFault<'a>>
-        ensures { told_word result ≡ call_with (line_verb self.entry) (line_words self.entry) }
-    {
-        match self {
-            CallLine::Queue(work, pool) => Ok(Call::Queue {
-                work: number(work)?,
-                pool: number(pool)?,
-            }),
-            CallLine::Delay(work, pool, ticks) => Ok(Call::Delay {
-                work: number(work)?,
-                pool: number(pool)?,
-                ticks: number(ticks)?,
-            }),
-            CallLine::Advance(tick) => Ok(Call::Advance {
-                tick: number(tick)?,
-            }),
-            CallLine::Start(pool) => Ok(Call::Start {
-                pool: number(pool)?,
-            }),
-            CallLine::Sleep(work) => Ok(Call::Sleep {
-                work: number(work)?,
-            }),
-            CallLine::Wake(work) => Ok(Call::Wake {
-                work: number(work)?,
-            }),
-            CallLine::Finish(work) => Ok(Call::Finish {
-                work: number(work)?,
-            }),
-            CallLine::Cancel(work) => Ok(Call::Cancel {
-                work: number(work)?,
-            }),
-            CallLine::Limit(pool, limit) => Ok(Call::Limit {
-                pool: number(pool)?,
-                limit: number(limit)?,
-            }),
-            CallLine::Flush => Ok(Call::Flush),
-            CallLine::Collect(place) => Ok(Call::Collect {
-                place: number(place)?,
-            }),
-            CallLine::Close => Ok(Call::Close),
-        }
-    }
+/// The call of a line, with the numbers that its words write.
+fn numbered<'a>(line: Call<Part<'a>>) -> Result<Call, WordFault<'a>>
+    ensures { told_word result ≡ call_with (verb_of line.entry) (map piece_of (numbers_of line.entry)) }
+{
+    Ok(match line {
+        Call::Queue { work, pool } => Call::Queue {
+            work: number(work)?,
+            pool: number(pool)?,
+        },
+        Call::Delay { work, pool, ticks } => Call::Delay {
+            work: number(work)?,
+            pool: number(pool)?,
+            ticks: number(ticks)?,
+        },
+        Call::Advance { tick } => Call::Advance {
+            tick: number(tick)?,
+        },
+        Call::Start { pool } => Call::Start {
+            pool: number(pool)?,
+        },
+        Call::Sleep { work } => Call::Sleep {
+            work: number(work)?,
+        },
+        Call::Wake { work } => Call::Wake {
+            work: number(work)?,
+        },
+        Call::Finish { work } => Call::Finish {
+            work: number(work)?,
+        },
+        Call::Cancel { work } => Call::Cancel {
+            work: number(work)?,
+        },
+        Call::Limit { pool, limit } => Call::Limit {
+            pool: number(pool)?,
+            limit: number(limit)?,
+        },
+        Call::Flush => Call::Flush,
+        Call::Collect { place } => Call::Collect {
+            place: number(place)?,
+        },
+        Call::Close => Call::Close,
+    })
 }
 
 /// The call that a line of the body asks for.
@@ -103,6 +98,6 @@ pub(crate) fn read_call<'a>(line: WordLine<'a>) -> Result<Call, LineFault<'a>>
     ensures { told_line (piece_of line.entry.line.text) result ≡ call_in (piece_of line.entry.line.text) }
 {
     let verb = Verb::named(line.first.bytes).ok_or(LineFault::Verb(line.first))?;
-    let call = call_line(verb, line.rest)?.call()?;
+    let call = numbered(call_line(verb, line.rest)?)?;
     Ok(call)
 }
