@@ -7,7 +7,6 @@ use Rattle.list.specs.declared.linked_list.LinkedList.{LinkedList}
 use Rattle.list.specs.Numbers.{times, In, NotIn, following}
 use Rattle.list.specs.Links.{link_at, Between, walk}
 use Rattle.list.specs.Lists.{Holds, members, Sound}
-use Rattle.list.specs.Changes.{Popped}
 use Rattle.list.proofs.Counting.{one, times_append, in_first, last_or, times_first, times_last, joint, within}
 use Rattle.list.proofs.Splitting.{Split, split, following_split, pigeons}
 use Rattle.list.proofs.Chains.{first_is, last_is, neighbours_are}
@@ -96,5 +95,5 @@ pub in_slice : {N : Type 0} (after before : N → Option ℕ) (ns : List N) (lis
 in_slice after before ns list s k o = omega (arith, s.inside k o, length-map ns after)
 
 -- so the record that was the first is one
-pub first_in_slice : {N : Type 0} {after before : N → Option ℕ} {bare : N → N} {ns ns' : List N} {list list' : LinkedList} {i : ℕ} → Sound after before ns list → Popped after before bare ns ns' list list' (Some i) → i < length ns
-first_in_slice {after = after} {before} {ns = ns} {ns'} {list} {list'} {i} s p = in_slice after before ns list s i (omega (arith, ap (times i) p.holds, in_first i (members after ns' list')))
+pub first_in_slice : {N : Type 0} (after before : N → Option ℕ) (ns : List N) (list : LinkedList) → Sound after before ns list → (i : ℕ) (rest : List ℕ) → members after ns list ≡ i ∷ rest → i < length ns
+first_in_slice after before ns list s i rest e = in_slice after before ns list s i (omega (arith, ap (times i) e, in_first i rest))

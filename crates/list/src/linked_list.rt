@@ -46,9 +46,9 @@ impl LinkedList {
         requires { Sound N.after N.before nodes.old self.old }
         ensures { Popped N.after N.before N.bare nodes.old nodes.new self.old self.new result }
     {
-        let i = self.front?;
-        self.remove(nodes, i);
-        Some(i)
+        let front = self.front?;
+        self.remove(nodes, front);
+        Some(front)
     }
 
     /// Lets the record `i` of the list go, from wherever it stands in it.

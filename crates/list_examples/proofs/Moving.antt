@@ -24,7 +24,7 @@ module _ {N : Type 0} {after before : N → Option ℕ} {bare : N → N} {ns ns�
   stays = popped.leaves.others to to-was (flipped (members after ns from) (members after ns to) were-apart)
 
   pub inside : i < length ns
-  inside = first_in_slice from-was popped
+  inside = first_in_slice _ _ _ _ from-was _ _ popped.holds
 
   -- how often a number is in the one list, and in the other
   in_from : (k : ℕ) → times k (members after ns from) ≡ times k (i ∷ members after ns₁ from₁)

@@ -1,16 +1,15 @@
 -- The settings that wait in a profile.
-use Rattle.std.proofs.Common.{◌≡◌, ℕ, zero, suc, ◌+◌, ◌<◌, ◌≤◌, List, [], ◌∷◌, ◌++◌, map, length, get_or, Some, sym, refl, ap, ◌∙◌, arith}
+use Rattle.std.proofs.Common.{◌≡◌, ℕ, zero, suc, ◌+◌, ◌<◌, ◌≤◌, List, [], ◌∷◌, ◌++◌, map, length, get_or, sym, refl, ap, ◌∙◌, arith}
 use Rattle.std.proofs.lemmas.List.FromFn.{fill_by_all, map-range_with_len_more}
 use Rattle.std.proofs.lemmas.List.{length-map, map-id, get_or-map}
 use Rattle.std.specs.List.{range_with_len}
 use Rattle.list.specs.declared.linked_list.LinkedList.{LinkedList}
 use Rattle.list.specs.Numbers.{NotIn}
 use Rattle.list.specs.Lists.{members}
-use Rattle.list.specs.Changes.{Popped}
 use Rattle.list.proofs.Counting.{one}
 use mathlib.Core.List.{map-map}
 use Rattle.list_examples.specs.declared.write.Write.{Write}
-use Rattle.list_examples.specs.Kinds.{write_after, write_before, bare_write}
+use Rattle.list_examples.specs.Kinds.{write_after, bare_write}
 use Rattle.list_examples.specs.Settings.{setting_of, pending}
 
 -- the numbers from a on, n of them, end below a + n
@@ -36,7 +35,7 @@ all_pending ws ws' list n long e m =
     ∙ sym (fill_by_all (λ k. get_or set k (0, 0)) set n (0, 0) (length-map ws setting_of ∙ long) (λ k lt. refl))
 
 -- if the first write that waits is taken, its setting was the first, and the others still wait
-pub taken : {ws ws' : List Write} {list list' : LinkedList} {i : ℕ} (d : Write) → i < length ws' → Popped write_after write_before bare_write ws ws' list list' (Some i)
-    → pending ws list ≡ setting_of (get_or ws' i d) ∷ pending ws' list'
-taken {ws} {ws'} {list} {list'} {i} d lt p =
-    (λ j. map (λ k. get_or (sym (settings_kept ws ws' p.leaves.fields) j) k (0, 0)) (p.holds j)) ∙ ap (λ s. s ∷ pending ws' list') (get_or-map setting_of ws' i d (0, 0) lt)
+pub taken : (ws ws' : List Write) (list list' : LinkedList) (i : ℕ) (d : Write) → i < length ws' → map bare_write ws' ≡ map bare_write ws
+    → members write_after ws list ≡ i ∷ members write_after ws' list' → pending ws list ≡ setting_of (get_or ws' i d) ∷ pending ws' list'
+taken ws ws' list list' i d lt e m =
+    (λ j. map (λ k. get_or (sym (settings_kept ws ws' e) j) k (0, 0)) (m j)) ∙ ap (λ s. s ∷ pending ws' list') (get_or-map setting_of ws' i d (0, 0) lt)

@@ -25,4 +25,4 @@ place_after p = p.links.1
 
 -- the place with its links taken off
 abbrev pub bare_place : Place → Place
-bare_place p = record { links = (None, None); holder = p.holder }
+bare_place p = record { links = (None, None); out = p.out; holder = p.holder }

@@ -1,5 +1,5 @@
 //! Ticket places as records of a list.
-ghost use Rattle.std.specs.Prelude.{◌≡◌, None as Nothing};
+ghost use Rattle.std.specs.Prelude.{◌≡◌, false, [], ◌∷◌, None as Nothing};
 ghost use Rattle.list_examples.specs.Kinds.{bare_place, place_after, place_before};
 ghost use Rattle.std.proofs.Common.{rules};
 
@@ -10,18 +10,21 @@ use list::node::Node;
 #[derive(Clone, Copy, Debug, PartialEq, Eq)]
 pub struct Place {
     links: (Option<u16>, Option<u16>),
-    /// Who holds the ticket that is out at the place, if one is.
-    pub holder: Option<[u8; 4]>,
+    /// Whether a ticket is out at the place.
+    pub out: bool,
+    /// Who holds the ticket, while one is out.
+    pub holder: [u8; 4],
 }
 
 impl Place {
     /// A place with no ticket out, which stands in no list.
     pub fn new() -> Place
-        ensures { result ≡ record { links = (Nothing, Nothing); holder = Nothing } }
+        ensures { result ≡ record { links = (Nothing, Nothing); out = false; holder = 0 ∷ 0 ∷ 0 ∷ 0 ∷ [] } }
     {
         Place {
             links: (None, None),
-            holder: None,
+            out: false,
+            holder: [0; 4],
         }
     }
 }

@@ -64,12 +64,9 @@ fn register_writes(rt: HostRuntime) {
 #[test]
 fn ticket_places(rt: HostRuntime) {
     let mut nodes = [Place::new(); 6];
-    nodes[5].holder = Some([1, 2, 3, 4]);
+    nodes[5].holder = [1, 2, 3, 4];
     removals(&rt, &mut nodes);
-    assert_eq!(rt;
-        (nodes[0].holder, nodes[5].holder),
-        (None, Some([1, 2, 3, 4]))
-    );
+    assert_eq!(rt; (nodes[0].out, nodes[5].holder), (false, [1, 2, 3, 4]));
     last_one(&rt, &mut [Place::new(); 6]);
     moves(&rt, &mut [Place::new(); 6]);
 }

@@ -2,4 +2,4 @@ use Rattle.list.proofs.Moving.{popped}
 use Rattle.list.proofs.linked_list.LinkedList.pop_front.Goals as goal
 
 pub returns : goal.returns
-returns g c = popped c.requires c.in_ok-i.was c.remove.ensures
+returns g c = popped c.requires c.in_ok-front.was c.remove.ensures
