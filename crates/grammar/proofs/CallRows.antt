@@ -7,7 +7,7 @@ use Rattle.grammar.specs.Faults.{Failure, next}
 use Rattle.grammar.specs.Calls.{call_in}
 use Rattle.grammar.specs.Reading.{read_row, call_rows}
 use Rattle.grammar.specs.Grammar.{All, written, numbers_of}
-use Rattle.grammar.specs.Places.{PartStands}
+use Rattle.grammar.specs.Places.{Stands, PartStands}
 use Rattle.grammar.proofs.Known.{Known, right, wrong, known_more, step_knows, test_knows}
 use Rattle.grammar.proofs.Standing.{front_stands, RowStands}
 use Rattle.grammar.proofs.CallLines.{call_complete, call_reads}
@@ -37,7 +37,7 @@ rows_called script (r ∷ rs) h =
     elim (skipped r.text.bytes) as (λ t. Known (Called (map told (cond (not t) (r ∷ unskipped rs) (unskipped rs))) (r ∷ rs)) (PartStands script) (cond t (call_rows rs) (body_row r rs))) [
       | true ↦ known_more (call_rows rs) more (λ cs k. record { are = k.are; narrow = (short, k.narrow); numbers = k.numbers })
       | false ↦
-          step_knows _ _ _ (row_says (call_reads script) r h.0) (λ c line.
+          step_knows _ _ _ (row_says (call_reads (Stands script)) r h.0) (λ c line.
           step_knows _ _ _ more (λ cs k.
           right (record { line = r.number; call = c } ∷ cs) (record { are = (λ i. (r.number, line.0 i) ∷ k.are i); narrow = (short, k.narrow); numbers = (line.1, k.numbers) })))
     ])

@@ -8,7 +8,7 @@ use Rattle.grammar.specs.Faults.{Failure}
 use Rattle.grammar.specs.Reading.{head_rows, read_script}
 use Rattle.grammar.specs.Grammar.{All, engine_line, policy_line, store_line, kept, Admitted, Exactly}
 use Rattle.grammar.proofs.Cuts.{lined, lines_of}
-use Rattle.grammar.specs.Places.{PartStands}
+use Rattle.grammar.specs.Places.{Stands, PartStands}
 use Rattle.grammar.proofs.Known.{Known, right, wrong, step_knows, test_knows}
 use Rattle.grammar.proofs.Standing.{RowStands, rows_stand}
 use Rattle.grammar.proofs.HeadLines.{EngineLine, PolicyLine, StoreLine, engine_reads, policy_reads, store_reads}
@@ -30,9 +30,9 @@ record Headed (script : List ℕ) (rs : List Row) (x : Head × List Row) : Type 
 -- so it is of rows of which a head is read
 headed : (script : List ℕ) (n : ℕ) (rs : List Row) → All (RowStands script) rs → Known (Headed script rs) (PartStands script) (head_rows n rs)
 headed script n rs h =
-    step_knows _ _ _ (head_found script n rs h) (λ y a. step_knows _ _ _ (row_says (engine_reads script) y.0 a.stand.0) (λ sizes engine.
-    step_knows _ _ _ (head_found script n y.1 a.stand.1) (λ z b. step_knows _ _ _ (row_says (policy_reads script) z.0 b.stand.0) (λ policy cap.
-    step_knows _ _ _ (head_found script n z.1 b.stand.1) (λ w c. step_knows _ _ _ (row_says (store_reads script) w.0 c.stand.0) (λ store says.
+    step_knows _ _ _ (head_found script n rs h) (λ y a. step_knows _ _ _ (row_says (engine_reads (Stands script)) y.0 a.stand.0) (λ sizes engine.
+    step_knows _ _ _ (head_found script n y.1 a.stand.1) (λ z b. step_knows _ _ _ (row_says (policy_reads (Stands script)) z.0 b.stand.0) (λ policy cap.
+    step_knows _ _ _ (head_found script n z.1 b.stand.1) (λ w c. step_knows _ _ _ (row_says (store_reads (Stands script)) w.0 c.stand.0) (λ store says.
     right (record { sizes = sizes; policy = policy.0; cap = policy.1; store = store }, w.1) (record {
       first = y.0;
       second = z.0;
@@ -84,9 +84,9 @@ complete script h calls adm =
     let says = sym (kept-rows 1 0 ls) ∙ ap (kept 1) (sym same) ∙ adm.says in
     let third = (adm.third, store_line h) ∷ call_texts calls in
     let second = (adm.second, policy_line h) ∷ third in
-    let a = head_read (engine_reads script) rs adm.first (engine_line h) h.sizes second narrow says (refl, adm.sizes) in
-    let b = head_read (policy_reads script) a.0.behind adm.second (policy_line h) (h.policy, h.cap) third a.0.narrow a.0.keeps (refl, adm.cap) in
-    let c = head_read (store_reads script) b.0.behind adm.third (store_line h) h.store (call_texts calls) b.0.narrow b.0.keeps refl in
+    let a = head_read (engine_reads (Stands script)) rs adm.first (engine_line h) h.sizes second narrow says (refl, adm.sizes) in
+    let b = head_read (policy_reads (Stands script)) a.0.behind adm.second (policy_line h) (h.policy, h.cap) third a.0.narrow a.0.keeps (refl, adm.cap) in
+    let c = head_read (store_reads (Stands script)) b.0.behind adm.third (store_line h) h.store (call_texts calls) b.0.narrow b.0.keeps refl in
     let body = rows_read c.0.behind calls (record { are = c.0.keeps; narrow = c.0.narrow; numbers = adm.numbers }) in
     simp (le-ltb 32768 (length script) adm.short, a.0.is, a.1, b.0.is, b.1, c.0.is, c.1, body)
 

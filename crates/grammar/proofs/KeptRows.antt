@@ -8,9 +8,9 @@ use Rattle.grammar.specs.Text.{Piece, Row, skipped, rows}
 use Rattle.grammar.specs.Faults.{Blame, Failure, in_row}
 use Rattle.grammar.specs.Reading.{next_row, needed, head_row, read_row}
 use Rattle.grammar.specs.Grammar.{All, kept}
-use Rattle.grammar.specs.Places.{PartStands}
+use Rattle.grammar.specs.Places.{Stands, PartStands}
 use Rattle.grammar.proofs.Known.{Known, right, wrong, known_more, step_knows, test_knows, Reads}
-use Rattle.grammar.proofs.Standing.{front_stands, RowStands}
+use Rattle.grammar.proofs.Standing.{front_stands, words_stand, RowStands}
 
 -- the rows that are not skipped
 abbrev pub unskipped : List Row → List Row
@@ -67,8 +67,8 @@ pub head_found : (script : List ℕ) (n : ℕ) (rs : List Row) → All (RowStand
 head_found script n rs h = needed_knows script n (next_row rs) (found script rs h)
 
 -- what is read of a row is read of its text
-pub row_says : {A : Type 0} {script : List ℕ} {f : Piece → Result A Blame} {Q : List ℕ → A → Type 0} → Reads script f Q → (r : Row) → RowStands script r → Known (Q r.text.bytes) (PartStands script) (read_row f r)
-row_says {f = f} reads r h = step_knows (in_row r) (f r.text) _ (reads.sound r.text h) (λ x q. right x q)
+pub row_says : {A : Type 0} {script : List ℕ} {f : Piece → Result A Blame} {Q : List ℕ → A → Type 0} → Reads (Stands script) f Q → (r : Row) → RowStands script r → Known (Q r.text.bytes) (PartStands script) (read_row f r)
+row_says {script = script} {f = f} reads r h = step_knows (in_row r) (f r.text) _ (reads.sound r.text h (words_stand script r.text h)) (λ x q. right x q)
 
 -- s gives a row that tells x, and rows behind it of which the kept ones tell rest
 pub record Comes (s : Result (Option (Row × List Row)) Failure) (x : ℕ × List ℕ) (rest : List (ℕ × List ℕ)) : Type 0 where
@@ -90,7 +90,7 @@ comes (r ∷ rs) x rest h e =
     rw (le-ltb 80 (length r.text.bytes) h.0) next
 
 -- the first row that is kept is read as what it says
-pub head_read : {A : Type 0} {f : Piece → Result A Blame} {script : List ℕ} {Q : List ℕ → A → Type 0} → Reads script f Q → (rs : List Row) (m : ℕ) (l : List ℕ) (x : A) (rest : List (ℕ × List ℕ)) → All Narrow rs → map told (unskipped rs) ≡ (m, l) ∷ rest → Q l x → (c : Comes (next_row rs) (m, l) rest) × (f c.row.text ≡ Ok x)
+pub head_read : {A : Type 0} {f : Piece → Result A Blame} {P : Piece → Type 0} {Q : List ℕ → A → Type 0} → Reads P f Q → (rs : List Row) (m : ℕ) (l : List ℕ) (x : A) (rest : List (ℕ × List ℕ)) → All Narrow rs → map told (unskipped rs) ≡ (m, l) ∷ rest → Q l x → (c : Comes (next_row rs) (m, l) rest) × (f c.row.text ≡ Ok x)
 head_read {Q = Q} reads rs m l x rest h e q =
     let c = comes rs (m, l) rest h e in
     (c, reads.complete c.row.text x (subst (λ t. Q t.1 x) (sym c.tells) q))

@@ -2,9 +2,9 @@
 use Rattle.std.proofs.Common.{◌≡◌, ℕ, Bool, true, false, cond, List, Some, None, Ok, Err, Option, Result, refl, MatchResult}
 use Rattle.std.specs.Option.{ok_or}
 use Rattle.std.proofs.lemmas.Result.{MatchResult-weaker}
-use Rattle.grammar.specs.Text.{Piece}
+use Rattle.grammar.specs.Text.{Piece, words_in}
 use Rattle.grammar.specs.Faults.{Blame, passed}
-use Rattle.grammar.specs.Places.{Stands}
+use Rattle.grammar.specs.Grammar.{All}
 
 -- P holds of the value, or Q holds of what is wrong
 pub record Known {A E : Type 0} (P : A → Type 0) (Q : E → Type 0) (r : Result A E) : Type 0 where
@@ -36,11 +36,11 @@ pub some_knows : {A E : Type 0} {P : A → Type 0} {Q : E → Type 0} (o : Optio
 some_knows None d h q = wrong d q
 some_knows (Some x) d h q = right x (h x refl)
 
--- the piece at fault stands in the script
-abbrev pub BlameStands : List ℕ → Blame → Type 0
-BlameStands script b = Stands script b.part
+-- P holds of the piece at fault
+abbrev pub Blamed : (Piece → Type 0) → Blame → Type 0
+Blamed P b = P b.part
 
--- f reads a line that stands in the script as x exactly if Q says so of the text of the line, and what it finds at fault stands in the script
-pub record Reads {A : Type 0} (script : List ℕ) (f : Piece → Result A Blame) (Q : List ℕ → A → Type 0) : Type 0 where
-  pub sound : (p : Piece) → Stands script p → Known (Q p.bytes) (BlameStands script) (f p)
+-- f reads a line as x exactly if Q says so of the text of the line, and P holds of what it finds at fault, if it holds of the line and of its words
+pub record Reads {A : Type 0} (P : Piece → Type 0) (f : Piece → Result A Blame) (Q : List ℕ → A → Type 0) : Type 0 where
+  pub sound : (p : Piece) → P p → All P (words_in p) → Known (Q p.bytes) (Blamed P) (f p)
   pub complete : (p : Piece) (x : A) → Q p.bytes x → f p ≡ Ok x

@@ -5,7 +5,6 @@ use Rattle.std.proofs.lemmas.List.{length-map}
 use Rattle.std.proofs.lemmas.List.FromFn.{fill_by_all}
 use Rattle.grammar.specs.Text.{Piece, pieces}
 use Rattle.grammar.specs.Numbers.{number_of}
-use Rattle.grammar.specs.Places.{Stands}
 use Rattle.grammar.specs.Calls.{number_in, numbers_in}
 use Rattle.grammar.specs.Grammar.{All, Lacks}
 use Rattle.grammar.proofs.Decimal.{number_decimal, decimal_number, decimal_lacks}
@@ -17,8 +16,8 @@ pub length-pieces : (k : ℕ) (ws : List (List ℕ)) → length (pieces k ws) �
 length-pieces k ws = omega (arith, ap length (texts-pieces k ws), length-map (pieces k ws) (λ p. p.bytes))
 
 -- a word that is read as a number is its decimal
-pub number_says : (script : List ℕ) (p : Piece) → Stands script p → Known (λ n. (n < 2 ^ 32) × (p.bytes ≡ decimal n)) (Stands script) (number_in p)
-number_says script p h = some_knows (number_of p.bytes) p (number_decimal p.bytes) h
+pub number_says : (P : Piece → Type 0) (p : Piece) → P p → Known (λ n. (n < 2 ^ 32) × (p.bytes ≡ decimal n)) P (number_in p)
+number_says P p h = some_knows (number_of p.bytes) p (number_decimal p.bytes) h
 
 -- the words are the decimals of the numbers, each below 2 ^ 32
 pub record Decimals (ws : List (List ℕ)) (ns : List ℕ) : Type 0 where
@@ -26,11 +25,11 @@ pub record Decimals (ws : List (List ℕ)) (ns : List ℕ) : Type 0 where
   pub small : All (λ n. n < 2 ^ 32) ns
 
 -- so it is of words that are read as numbers
-pub numbers_say : (script : List ℕ) (ps : List Piece) → All (Stands script) ps → Known (Decimals (texts ps)) (Stands script) (numbers_in ps)
-numbers_say script [] h = right [] (record { are = refl; small = tt })
-numbers_say script (p ∷ ps) h =
-    step_knows _ _ _ (number_says script p h.0) (λ n d.
-    step_knows _ _ _ (numbers_say script ps h.1) (λ ns ds. right (n ∷ ns) (record { are = (λ i. d.1 i ∷ ds.are i); small = (d.0, ds.small) })))
+pub numbers_say : (P : Piece → Type 0) (ps : List Piece) → All P ps → Known (Decimals (texts ps)) P (numbers_in ps)
+numbers_say P [] h = right [] (record { are = refl; small = tt })
+numbers_say P (p ∷ ps) h =
+    step_knows _ _ _ (number_says P p h.0) (λ n d.
+    step_knows _ _ _ (numbers_say P ps h.1) (λ ns ds. right (n ∷ ns) (record { are = (λ i. d.1 i ∷ ds.are i); small = (d.0, ds.small) })))
 
 -- and of the decimals the numbers are read
 pub numbers_on : (k : ℕ) (ns : List ℕ) → All (λ n. n < 2 ^ 32) ns → numbers_in (pieces k (map decimal ns)) ≡ Ok ns

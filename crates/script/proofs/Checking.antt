@@ -1,7 +1,7 @@
 -- Calls that are read one after another.
 use Rattle.std.proofs.Common.{ℕ, ◌≡◌, ◌+◌, Bool, true, false, cond, ltb, List, [], ◌∷◌, ◌++◌, length, Some, None, Ok, Err, Option, Result, sym, refl, ap, ◌∙◌}
 use Rattle.std.proofs.lemmas.List.{append_assoc}
-use Rattle.rules.specs.declared.call.Call.{Call}
+use Rattle.rules.specs.Format.{Call}
 use Rattle.grammar.specs.declared.numbered.NumberedCall.{NumberedCall}
 use Rattle.grammar.specs.Text.{Row, skipped, skips}
 use Rattle.grammar.specs.Faults.{Failure, next}
@@ -41,7 +41,7 @@ calls_from_lem [] = refl
 calls_from_lem (r ∷ rs) = by_step calls_from (ltb 80 (length r.text.bytes)) (skipped r.text.bytes) r rs (good_calls rs) (calls_from_lem rs)
 
 -- the four ways to read the next call
-pub call_found : (s t : Lines) (l : WordLine) (c : Call ℕ) → Found s l t → Ok c ≡ read_row call_in (word_row l) → CallFound s (record { line = l.line.number; call = c }) t
+pub call_found : (s t : Lines) (l : WordLine) (c : Call) → Found s l t → Ok c ≡ read_row call_in (word_row l) → CallFound s (record { line = l.line.number; call = c }) t
 call_found s t l c g e =
     record {
       same = g.same;

@@ -3,7 +3,7 @@ use Rattle.std.proofs.Common.{◌≡◌, ℕ, ◌+◌, ◌-◌, ◌<◌, List, [
 use Rattle.std.proofs.lemmas.List.{take_all, take_rest, length-take-le}
 use Rattle.grammar.specs.Text.{words, pieces}
 use Rattle.script.specs.Lines.{place}
-use Rattle.script.specs.declared.part.Part.{Part}
+use Rattle.script.specs.declared.text.Text.{Text}
 use Rattle.script.specs.Parts.{piece_of, words_left}
 use Rattle.grammar.proofs.Spaced.{worded}
 use Rattle.script.proofs.Splitting.{parts_at, words_last}
@@ -21,5 +21,5 @@ cut_more k n l is h =
     ap (pieces k) s ∙ (λ i. record { at = k; bytes = take n l } ∷ pieces (k + long i + 1) (words (back i)))
 
 -- behind a space stands a word, perhaps an empty one
-pub some_left : (p : Part) → 0 < length (words_left (record { left = Some p }))
-some_left p = omega (arith, ap length (worded (piece_of p)).are)
+pub some_left : (t : Text) → 0 < length (words_left (record { left = Some t }))
+some_left t = omega (arith, ap length (worded (piece_of t.part)).are)

@@ -33,7 +33,7 @@ lacks_all : (b : ℕ) (w : List ℕ) → length w ≤ place b w → Lacks b w
 lacks_all b w h = subst (Lacks b) (take_all (place b w) w h) (lacks_before b w)
 
 -- no byte 10: one line
-lines_last : (w : List ℕ) → 0 < length w → length w ≤ place 10 w → lines w ≡ w ∷ []
+pub lines_last : (w : List ℕ) → 0 < length w → length w ≤ place 10 w → lines w ≡ w ∷ []
 lines_last [] some h = absurd (omega arith)
 lines_last (c ∷ cs) some h =
     lines_of (c ∷ cs) ((c ∷ cs) ∷ []) (record { ended = []; left = c ∷ cs; is = refl; ends = tt; lacks = lacks_all 10 (c ∷ cs) h; whole = refl })

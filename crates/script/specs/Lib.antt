@@ -1,3 +1,4 @@
+pub mod Near
 pub mod Parts
 pub mod Lines
 pub mod CallLines

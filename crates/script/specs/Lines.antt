@@ -28,7 +28,7 @@ rows_left s = rows (s.count + 1) s.at (lines_left s)
 
 -- a line of the cursor as a row
 abbrev pub row_of : NumberedLine → Row
-row_of l = record { number = l.number; text = piece_of l.text }
+row_of l = record { number = l.number; text = piece_of l.text.part }
 
 -- the cursor stands before the first line of the script
 pub record Fresh (script : List ℕ) (s : Lines) : Type 0 where
@@ -40,7 +40,7 @@ pub record Fresh (script : List ℕ) (s : Lines) : Type 0 where
 -- one step: the first line that is left
 pub record Given (s : Lines) (l : NumberedLine) (t : Lines) : Type 0 where
   pub same : t.script.now ≡ s.script.now
-  pub head : lines_left s ≡ l.text.bytes.now ∷ lines_left t
+  pub head : lines_left s ≡ l.text.part.bytes.now ∷ lines_left t
   pub rest : rows_left s ≡ row_of l ∷ rows_left t
   pub counted : t.count ≡ s.count + 1
   pub skips : t.skipped ≡ s.skipped

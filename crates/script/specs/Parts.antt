@@ -17,7 +17,7 @@ piece_of p = record { at = p.at; bytes = p.bytes.now }
 
 -- the words that are left of a line
 abbrev pub words_left : Words → List Piece
-words_left w = elim w.left [ None ↦ [] | Some p ↦ words_in (piece_of p) ]
+words_left w = elim w.left [ None ↦ [] | Some t ↦ words_in (piece_of t.part) ]
 
 -- a fault of the given line
 abbrev pub blame_of : Piece → LineFault → Blame

@@ -9,6 +9,7 @@ use crate::fault::Fault;
 use crate::line::{Line, find, line_of};
 use crate::lines::{Lines, NumberedLine, WordLine};
 use crate::part::{MAX_LINE, Part};
+use crate::text::Text;
 use rules::fault::FaultKind;
 
 impl<'a> Lines<'a> {
@@ -41,7 +42,9 @@ impl<'a> Lines<'a> {
         self.at = (at + n + 1).min(script.len());
         Some(NumberedLine {
             number: self.count,
-            text: Part { at, bytes },
+            text: Text {
+                part: Part { at, bytes },
+            },
         })
     }
 
@@ -51,7 +54,7 @@ impl<'a> Lines<'a> {
         ensures { Kept self.old result self.new }
     {
         while let Some(line) = self.next_line() {
-            if line.text.bytes.len() > MAX_LINE {
+            if line.text.part.bytes.len() > MAX_LINE {
                 return Err(too_long(line));
             }
             match line_of(line.text) {
@@ -65,12 +68,12 @@ impl<'a> Lines<'a> {
 
 /// The fault of a line that is too long: its first 80 bytes are at fault.
 fn too_long<'a>(line: NumberedLine<'a>) -> Fault<'a>
-    requires { 80 < length line.text.bytes.now }
+    requires { 80 < length line.text.part.bytes.now }
     ensures { failure_of result ≡ too_long (row_of line.entry) }
 {
     let part = Part {
-        at: line.text.at,
-        bytes: &line.text.bytes[0..MAX_LINE],
+        at: line.text.part.at,
+        bytes: &line.text.part.bytes[0..MAX_LINE],
     };
     Fault {
         kind: FaultKind::LineTooLong,

@@ -69,13 +69,13 @@ impl<'a> From<Refusal> for LineFault<'a> {
 impl<'a> LineFault<'a> {
     /// The fault of the script, where this is its line.
     pub(crate) fn in_line(self, line: NumberedLine<'a>) -> Fault<'a>
-        ensures { failure_of result ≡ in_row (row_of line.entry) (blame_of (piece_of line.entry.text) self.entry) }
+        ensures { failure_of result ≡ in_row (row_of line.entry) (blame_of (piece_of line.entry.text.part) self.entry) }
     {
         let (kind, part) = match self {
             LineFault::Verb(word) => (FaultKind::UnknownVerb, word),
-            LineFault::Count => (FaultKind::WordCount, line.text),
+            LineFault::Count => (FaultKind::WordCount, line.text.part),
             LineFault::Word(fault) => (FaultKind::BadWord, fault.word),
-            LineFault::Refused(refusal) => (FaultKind::from(refusal), line.text),
+            LineFault::Refused(refusal) => (FaultKind::from(refusal), line.text.part),
         };
         Fault {
             kind,

@@ -35,7 +35,7 @@ fn name<'a, T: Named>(word: Part<'a>) -> Result<T, WordFault<'a>>
 
 /// `engine W P F`: how many works, pools and ticket places.
 pub(crate) fn read_engine<'a>(line: WordLine<'a>) -> Result<Sizes, LineFault<'a>>
-    ensures { told_line (piece_of line.entry.line.text) result ≡ engine_in (piece_of line.entry.line.text) }
+    ensures { told_line (piece_of line.entry.line.text.part) result ≡ engine_in (piece_of line.entry.line.text.part) }
 {
     let mut words = head_rest(line, HeadVerb::Engine)?;
     let works = words.due()?;
@@ -48,7 +48,7 @@ pub(crate) fn read_engine<'a>(line: WordLine<'a>) -> Result<Sizes, LineFault<'a>
 
 /// `policy N B`: the policy and the cap over it.
 pub(crate) fn read_policy<'a>(line: WordLine<'a>) -> Result<(PolicyName, u8), LineFault<'a>>
-    ensures { told_line (piece_of line.entry.line.text) result ≡ policy_in (piece_of line.entry.line.text) }
+    ensures { told_line (piece_of line.entry.line.text.part) result ≡ policy_in (piece_of line.entry.line.text.part) }
 {
     let mut words = head_rest(line, HeadVerb::Policy)?;
     let policy = words.due()?;
@@ -61,7 +61,7 @@ pub(crate) fn read_policy<'a>(line: WordLine<'a>) -> Result<(PolicyName, u8), Li
 
 /// `store S`: the delay store.
 pub(crate) fn read_store<'a>(line: WordLine<'a>) -> Result<StoreName, LineFault<'a>>
-    ensures { told_line (piece_of line.entry.line.text) result ≡ store_in (piece_of line.entry.line.text) }
+    ensures { told_line (piece_of line.entry.line.text.part) result ≡ store_in (piece_of line.entry.line.text.part) }
 {
     let mut words = head_rest(line, HeadVerb::Store)?;
     let store = words.due()?;

@@ -12,4 +12,5 @@ pub mod lines;
 mod number;
 pub mod part;
 pub mod reader;
+mod text;
 mod words;

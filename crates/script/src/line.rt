@@ -4,6 +4,7 @@ ghost use Rattle.script.specs.Lines.{place, Says};
 ghost use Rattle.script.specs.Parts.{piece_of};
 
 use crate::part::Part;
+use crate::text::Text;
 use crate::words::{Words, cut};
 
 /// A line of a script, whose words are parts of the script.
@@ -26,10 +27,10 @@ pub(crate) fn find(bytes: &[u8], b: u8) -> usize
 }
 
 /// What a line says.
-pub(crate) fn line_of<'a>(text: Part<'a>) -> Line<'a>
-    ensures { Says (piece_of text.entry) result }
+pub(crate) fn line_of<'a>(text: Text<'a>) -> Line<'a>
+    ensures { Says (piece_of text.entry.part) result }
 {
-    match text.bytes {
+    match text.part.bytes {
         [] => Line::Empty,
         [b'#', rest @ ..] => Line::Comment(rest),
         _ => {

@@ -4,6 +4,7 @@ ghost use Rattle.grammar.specs.Text.{lines, words_in};
 ghost use Rattle.script.specs.Parts.{piece_of, words_left};
 
 use crate::part::Part;
+use crate::text::Text;
 use crate::words::Words;
 use grammar::head::Head;
 
@@ -27,7 +28,7 @@ pub struct Lines<'a> {
 #[derive(Clone, Copy)]
 pub(crate) struct NumberedLine<'a> {
     pub(crate) number: u32,
-    pub(crate) text: Part<'a>,
+    pub(crate) text: Text<'a>,
 }
 
 /// A line that is not skipped, its first word, and the words behind it.
@@ -37,7 +38,7 @@ pub(crate) struct WordLine<'a> {
     pub(crate) first: Part<'a>,
     pub(crate) rest: Words<'a>,
     /// The words of its text are the first one and the rest.
-    ghost worded: { words_in (piece_of line.text) ≡ piece_of first ∷ words_left rest },
+    ghost worded: { words_in (piece_of line.text.part) ≡ piece_of first ∷ words_left rest },
 }
 
 /// What an admitted script begins with, and how many of its lines are skipped.

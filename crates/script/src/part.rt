@@ -1,5 +1,4 @@
 //! Parts of a script, and how long they may be.
-ghost use Rattle.std.specs.Prelude.{◌+◌, ◌≤◌, length};
 
 /// The most bytes that a script may have.
 pub const MAX_SCRIPT: usize = 32_768;
@@ -12,6 +11,4 @@ pub const MAX_LINE: usize = 80;
 pub struct Part<'a> {
     pub at: usize,
     pub bytes: &'a [u8],
-    /// It ends within the longest script, so that no place overflows.
-    ghost near: { at + length bytes.now ≤ 32768 },
 }

@@ -1,10 +1,11 @@
 //! The reader of whole scripts.
-ghost use Rattle.std.specs.Prelude.{◌≡◌, List, IfErr, MatchResult};
+ghost use Rattle.std.specs.Prelude.{◌≡◌, List, IfErr, IfSome, MatchResult};
 ghost use Rattle.grammar.specs.Grammar.{Admitted};
 ghost use Rattle.grammar.specs.Places.{PartStands};
 ghost use Rattle.grammar.specs.Reading.{calls_of};
 ghost use Rattle.grammar.specs.Faults.{in_row, passed};
 ghost use Rattle.script.specs.Lines.{row_of};
+ghost use Rattle.script.specs.Near.{Near};
 ghost use Rattle.script.specs.Parts.{piece_of, told, told_line, failure_of};
 ghost use Rattle.script.specs.Outcome.{HeadNext, HeadRead, CallRead, Checked, Outcome, okay};
 
@@ -19,7 +20,7 @@ use rules::fault::FaultKind;
 
 /// What was read of a line, with a fault of the line as one of the script.
 fn located<'a, T>(line: NumberedLine<'a>, read: Result<T, LineFault<'a>>) -> Result<T, Fault<'a>>
-    ensures { told failure_of result ≡ passed (in_row (row_of line.entry)) (told_line (piece_of line.entry.text) read.entry) okay }
+    ensures { told failure_of result ≡ passed (in_row (row_of line.entry)) (told_line (piece_of line.entry.text.part) read.entry) okay }
 {
     match read {
         Ok(value) => Ok(value),
@@ -89,6 +90,7 @@ pub fn read<'a>(script: &'a [u8]) -> Result<Outline, Fault<'a>>
     ensures outcome { Outcome script.now result }
     ensures grammar { MatchResult result (λ o. Admitted script.now o.head (calls_of script.now)) (λ _. (h : Head) (cs : List NumberedCall) → Admitted script.now h cs → ⊥) }
     ensures part { IfErr result (λ f. PartStands script.now (failure_of f)) }
+    ensures near { IfErr result (λ f. IfSome f.part Near) }
 {
     if script.len() > MAX_SCRIPT {
         return Err(Fault {

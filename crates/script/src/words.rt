@@ -6,11 +6,12 @@ ghost use Rattle.script.specs.Parts.{piece_of, words_left};
 use crate::fault::WrongCount;
 use crate::line::find;
 use crate::part::Part;
+use crate::text::Text;
 
 /// The words that are left of a line: those of what stands behind a space, if one was there.
 #[derive(Clone, Copy)]
 pub(crate) struct Words<'a> {
-    left: Option<Part<'a>>,
+    left: Option<Text<'a>>,
 }
 
 impl<'a> Words<'a> {
@@ -37,21 +38,22 @@ impl<'a> Words<'a> {
 
 /// The first word of a text, and the words behind it.
 #[tactic(auto, using(crate::proofs::Cutting::cut_last, crate::proofs::Cutting::cut_more))]
-pub(crate) fn cut<'a>(text: Part<'a>) -> (Part<'a>, Words<'a>)
-    ensures { words_in (piece_of text.entry) ≡ piece_of result.0 ∷ words_left result.1 }
+pub(crate) fn cut<'a>(text: Text<'a>) -> (Part<'a>, Words<'a>)
+    ensures { words_in (piece_of text.entry.part) ≡ piece_of result.0 ∷ words_left result.1 }
 {
-    let bytes = text.bytes;
+    let Part { at, bytes } = text.part;
     let n = find(bytes, b' ');
     let first = Part {
-        at: text.at,
+        at,
         bytes: &bytes[..n],
     };
     if n == bytes.len() {
         return (first, Words { left: None });
     }
     let rest = Part {
-        at: text.at + n + 1,
+        at: at + n + 1,
         bytes: &bytes[n + 1..],
     };
-    (first, Words { left: Some(rest) })
+    let left = Some(Text { part: rest });
+    (first, Words { left })
 }
