@@ -1,9 +1,9 @@
 -- The grammar in its own words: of what an admitted script is made.
 use Rattle.std.specs.Prelude.{◌≡◌, ℕ, ◌+◌, ◌^◌, ◌<◌, ◌≤◌, true, cond, List, [], ◌∷◌, ◌++◌, map, length, decimal, MatchResult, ◌≢◌}
 use Rattle.std.specs.List.{AllByRecursion, join_with_byte}
-use Rattle.rules.specs.declared.call.CallOf.{CallOf}
-use Rattle.rules.specs.declared.call.CallOf.TheVariants.{Queue, Delay, Advance, Start, Sleep, Wake, Finish, Cancel, Limit, Flush, Collect, Close}
-use Rattle.rules.specs.Format.{Call, verb_text, verb_of}
+use Rattle.rules.specs.declared.call.Call.{Call}
+use Rattle.rules.specs.declared.call.Call.TheVariants.{Queue, Delay, Advance, Start, Sleep, Wake, Finish, Cancel, Limit, Flush, Collect, Close}
+use Rattle.rules.specs.Format.{verb_text, verb_of}
 use Rattle.rules.specs.Sizes.{sizes_fit, within}
 use Rattle.grammar.specs.declared.head.Head.{Head}
 use Rattle.rules.specs.declared.head.HeadVerb.TheVariants.{Engine, Policy, Store}
@@ -44,7 +44,7 @@ abbrev pub spaced : List (List ℕ) → List ℕ
 spaced ws = join_with_byte 32 ws
 
 -- the numbers of a call
-abbrev pub numbers_of : {N : Type 0} → CallOf N → List N
+abbrev pub numbers_of : {N : Type 0} → Call N → List N
 numbers_of (Queue work pool) = work ∷ pool ∷ []
 numbers_of (Delay work pool ticks) = work ∷ pool ∷ ticks ∷ []
 numbers_of (Advance tick) = tick ∷ []
@@ -59,7 +59,7 @@ numbers_of (Collect place) = place ∷ []
 numbers_of Close = []
 
 -- a call is written as its verb and the decimals of its numbers
-abbrev pub written : Call → List ℕ
+abbrev pub written : Call ℕ → List ℕ
 written c = spaced (verb_text (verb_of c) ∷ map decimal (numbers_of c))
 
 -- the three lines of a head

@@ -1,6 +1,6 @@
 -- A whole script: the head, the calls in their order, or the first fault.
 use Rattle.std.specs.Prelude.{ℕ, ◌+◌, cond, List, [], ◌∷◌, length, take, Some, None, Ok, Err, Option, Result, nat_lt}
-use Rattle.rules.specs.Format.{Call}
+use Rattle.rules.specs.declared.call.Call.{Call}
 use Rattle.rules.specs.declared.fault.FaultKind.TheVariants.{ScriptTooLong, LineTooLong, UnknownVerb}
 use Rattle.grammar.specs.declared.head.Head.{Head}
 use Rattle.grammar.specs.declared.numbered.NumberedCall.{NumberedCall}
@@ -60,7 +60,7 @@ read_script script =
     cond (nat_lt 32768 (length script)) (Err (record { kind = ScriptTooLong; line = 0; part = None })) (script_rows (length (lines script)) (rows 1 0 (lines script)))
 
 -- a call and the calls behind it; a fault ends the list
-abbrev pub call_then : ℕ → Result Call Failure → List NumberedCall → List NumberedCall
+abbrev pub call_then : ℕ → Result (Call ℕ) Failure → List NumberedCall → List NumberedCall
 call_then n (Ok c) cs = record { line = n; call = c } ∷ cs
 call_then n (Err f) cs = []
 

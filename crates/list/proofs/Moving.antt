@@ -135,3 +135,8 @@ popped {after = after} {ns = ns} {list = list} {i = i} s is r =
       alone = r.alone;
       leaves = r.leaves;
     }
+
+-- told by any name of that number
+pub popped_as : {N : Type 0} {after before : N → Option ℕ} {bare : N → N} {ns ns' : List N} {list list' : LinkedList} {i : ℕ} {r : Option ℕ}
+    → Sound after before ns list → list.front ≡ Some i → Removed after before bare ns ns' list list' i → r ≡ Some i → Popped after before bare ns ns' list list' r
+popped_as {after = after} {before} {bare} {ns} {ns'} {list} {list'} s is d e = subst (λ q. Popped after before bare ns ns' list list' q) (sym e) (popped s is d)

@@ -3,8 +3,8 @@ use Rattle.std.specs.Prelude.{ℕ, List, [], ◌∷◌, codes, Option}
 use Rattle.rules.specs.Names.{first_named}
 use Rattle.rules.specs.declared.call.Verb.{Verb}
 use Rattle.rules.specs.declared.call.Verb.TheVariants as verb
-use Rattle.rules.specs.declared.call.CallOf.{CallOf}
-use Rattle.rules.specs.declared.call.CallOf.TheVariants as call
+use Rattle.rules.specs.declared.call.Call.{Call}
+use Rattle.rules.specs.declared.call.Call.TheVariants as call
 use Rattle.rules.specs.declared.refusal.Refusal.{Refusal}
 use Rattle.rules.specs.declared.refusal.Refusal.TheVariants.{Shut, NoSuchWork, NoSuchPool, AlreadyWaiting, DueTooLate, StoreFull, TickInPast, NothingToStart, NotPermitted, NotAwake, NotAsleep, NotWaiting, LimitOutOfRange, NoFreePlace, NoTicketOut, TicketNotReady, StillBusy, SizeOutOfRange, CapOutOfRange}
 use Rattle.rules.specs.declared.fault.FaultKind.{FaultKind}
@@ -107,12 +107,8 @@ verb_index verb.Close = 11
 abbrev pub verb_named : List ℕ → Option Verb
 verb_named w = first_named verb_text verbs w
 
--- a call with its numbers
-abbrev pub Call : Type 0
-Call = CallOf ℕ
-
 -- the verb of a call
-abbrev pub verb_of : {N : Type 0} → CallOf N → Verb
+abbrev pub verb_of : {N : Type 0} → Call N → Verb
 verb_of (call.Queue work pool) = verb.Queue
 verb_of (call.Delay work pool ticks) = verb.Delay
 verb_of (call.Advance tick) = verb.Advance

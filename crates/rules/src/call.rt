@@ -23,10 +23,10 @@ pub enum Verb {
     Close,
 }
 
-/// One of the twelve calls, with an `N` for each of its numbers: a number, or a word that is not read
-/// yet.
+/// A call with its numbers. Any numbers can be written down: a call that does not fit is refused
+/// when it is made. Where the numbers are still words, `N` is what a word is.
 #[derive(Clone, Copy, Debug, PartialEq, Eq)]
-pub enum CallOf<N> {
+pub enum Call<N = u32> {
     /// A work enters a pool.
     Queue { work: N, pool: N },
     /// A work enters a pool after so many ticks.
@@ -52,10 +52,6 @@ pub enum CallOf<N> {
     /// The engine is shut.
     Close,
 }
-
-/// A call with its numbers. Any numbers can be written down: a call that does not fit is refused
-/// when it is made.
-pub type Call = CallOf<u32>;
 
 impl Verb {
     /// The twelve verbs, in the order in which reports list them.
@@ -123,24 +119,24 @@ impl Named for Verb {
     }
 }
 
-impl<N> CallOf<N> {
+impl<N> Call<N> {
     /// The verb of the call.
     pub fn verb(&self) -> Verb
         ensures { result ≡ verb_of self.now }
     {
         match self {
-            CallOf::Queue { .. } => Verb::Queue,
-            CallOf::Delay { .. } => Verb::Delay,
-            CallOf::Advance { .. } => Verb::Advance,
-            CallOf::Start { .. } => Verb::Start,
-            CallOf::Sleep { .. } => Verb::Sleep,
-            CallOf::Wake { .. } => Verb::Wake,
-            CallOf::Finish { .. } => Verb::Finish,
-            CallOf::Cancel { .. } => Verb::Cancel,
-            CallOf::Limit { .. } => Verb::Limit,
-            CallOf::Flush => Verb::Flush,
-            CallOf::Collect { .. } => Verb::Collect,
-            CallOf::Close => Verb::Close,
+            Call::Queue { .. } => Verb::Queue,
+            Call::Delay { .. } => Verb::Delay,
+            Call::Advance { .. } => Verb::Advance,
+            Call::Start { .. } => Verb::Start,
+            Call::Sleep { .. } => Verb::Sleep,
+            Call::Wake { .. } => Verb::Wake,
+            Call::Finish { .. } => Verb::Finish,
+            Call::Cancel { .. } => Verb::Cancel,
+            Call::Limit { .. } => Verb::Limit,
+            Call::Flush => Verb::Flush,
+            Call::Collect { .. } => Verb::Collect,
+            Call::Close => Verb::Close,
         }
     }
 }
