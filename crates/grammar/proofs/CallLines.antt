@@ -3,8 +3,9 @@ use Rattle.std.proofs.Common.{◌≡◌, ℕ, eqb, ◌+◌, ◌^◌, ◌<◌, Li
 use Rattle.std.specs.List.{range_with_len}
 use Rattle.std.proofs.lemmas.List.{length-map}
 use Rattle.std.proofs.lemmas.Bool.{eqb-true, eq-eqb}
+use Rattle.rules.specs.declared.call.Call.{Call}
 use Rattle.rules.specs.declared.call.Verb.{Verb}
-use Rattle.rules.specs.Format.{Call, verb_text, verbs, verb_of, verb_named}
+use Rattle.rules.specs.Format.{verb_text, verbs, verb_of, verb_named}
 use Rattle.grammar.specs.Text.{Piece, words, words_in}
 use Rattle.grammar.specs.Calls.{arity, call_of, call_by, call_in}
 use Rattle.grammar.specs.Grammar.{All, spaced, numbers_of, written}

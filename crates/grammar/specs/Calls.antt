@@ -27,7 +27,7 @@ arity Collect = 1
 arity Close = 0
 
 -- the call that a verb makes with its numbers
-abbrev pub call_of : Verb → List ℕ → Call ℕ
+abbrev pub call_of : Verb → List ℕ → Call
 call_of Queue ns = call.Queue (slice_index ns 0) (slice_index ns 1)
 call_of Delay ns = call.Delay (slice_index ns 0) (slice_index ns 1) (slice_index ns 2)
 call_of Advance ns = call.Advance (slice_index ns 0)
@@ -51,20 +51,20 @@ numbers_in [] = Ok []
 numbers_in (w ∷ ws) = next (number_in w) (λ n. next (numbers_in ws) (λ ns. Ok (n ∷ ns)))
 
 -- the call of a verb and the words behind it
-abbrev pub call_with : Verb → List Piece → Result (Call ℕ) Piece
+abbrev pub call_with : Verb → List Piece → Result Call Piece
 call_with v ws = next (numbers_in ws) (λ ns. Ok (call_of v ns))
 
 -- a line by the verb that its first word names: the verb, then the count of words, then the words
-abbrev pub call_by : Piece → Piece → List Piece → Option Verb → Result (Call ℕ) Blame
+abbrev pub call_by : Piece → Piece → List Piece → Option Verb → Result Call Blame
 call_by line first ws None = Err (record { kind = UnknownVerb; part = first })
 call_by line first ws (Some v) =
     cond (length ws == arity v) (passed bad_word (call_with v ws) (λ c. Ok c)) (Err (record { kind = WordCount; part = line }))
 
 -- a line by its words, of which there is always one
-abbrev pub call_from : Piece → List Piece → Result (Call ℕ) Blame
+abbrev pub call_from : Piece → List Piece → Result Call Blame
 call_from line [] = Err (record { kind = UnknownVerb; part = line })
 call_from line (first ∷ ws) = call_by line first ws (verb_named first.bytes)
 
 -- the call that a line of the body asks for
-abbrev pub call_in : Piece → Result (Call ℕ) Blame
+abbrev pub call_in : Piece → Result Call Blame
 call_in line = call_from line (words_in line)

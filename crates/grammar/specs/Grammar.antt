@@ -44,7 +44,7 @@ abbrev pub spaced : List (List ℕ) → List ℕ
 spaced ws = join_with_byte 32 ws
 
 -- the numbers of a call
-abbrev pub numbers_of : {N : Type 0} → Call N → List N
+abbrev pub numbers_of : Call → List ℕ
 numbers_of (Queue work pool) = work ∷ pool ∷ []
 numbers_of (Delay work pool ticks) = work ∷ pool ∷ ticks ∷ []
 numbers_of (Advance tick) = tick ∷ []
@@ -59,7 +59,7 @@ numbers_of (Collect place) = place ∷ []
 numbers_of Close = []
 
 -- a call is written as its verb and the decimals of its numbers
-abbrev pub written : Call ℕ → List ℕ
+abbrev pub written : Call → List ℕ
 written c = spaced (verb_text (verb_of c) ∷ map decimal (numbers_of c))
 
 -- the three lines of a head

@@ -60,7 +60,7 @@ read_script script =
     cond (nat_lt 32768 (length script)) (Err (record { kind = ScriptTooLong; line = 0; part = None })) (script_rows (length (lines script)) (rows 1 0 (lines script)))
 
 -- a call and the calls behind it; a fault ends the list
-abbrev pub call_then : ℕ → Result (Call ℕ) Failure → List NumberedCall → List NumberedCall
+abbrev pub call_then : ℕ → Result Call Failure → List NumberedCall → List NumberedCall
 call_then n (Ok c) cs = record { line = n; call = c } ∷ cs
 call_then n (Err f) cs = []
 

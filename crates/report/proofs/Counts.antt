@@ -29,11 +29,11 @@ length-rows : (n k : ℕ) (ls : List (List ℕ)) → length (rows n k ls) ≡ le
 length-rows n k [] = refl
 length-rows n k (l ∷ ls) = ap suc (length-rows (n + 1) (k + length l + 1) ls)
 
-length_then : (n : ℕ) (r : Result (Call ℕ) Failure) (cs : List NumberedCall) → length (call_then n r cs) ≤ length cs + 1
+length_then : (n : ℕ) (r : Result Call Failure) (cs : List NumberedCall) → length (call_then n r cs) ≤ length cs + 1
 length_then n (Ok c) cs = omega arith
 length_then n (Err f) cs = omega arith
 
-length_row : (long skip : Bool) (n : ℕ) (r : Result (Call ℕ) Failure) (cs : List NumberedCall) → length (cond long [] (cond skip cs (call_then n r cs))) ≤ length cs + 1
+length_row : (long skip : Bool) (n : ℕ) (r : Result Call Failure) (cs : List NumberedCall) → length (cond long [] (cond skip cs (call_then n r cs))) ≤ length cs + 1
 length_row long skip n r cs = grind (arith, length_then n r cs)
 
 -- rows have no more calls than there are rows

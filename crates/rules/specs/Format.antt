@@ -108,7 +108,7 @@ abbrev pub verb_named : List ℕ → Option Verb
 verb_named w = first_named verb_text verbs w
 
 -- the verb of a call
-abbrev pub verb_of : {N : Type 0} → Call N → Verb
+abbrev pub verb_of : Call → Verb
 verb_of (call.Queue work pool) = verb.Queue
 verb_of (call.Delay work pool ticks) = verb.Delay
 verb_of (call.Advance tick) = verb.Advance

@@ -24,31 +24,31 @@ pub enum Verb {
 }
 
 /// A call with its numbers. Any numbers can be written down: a call that does not fit is refused
-/// when it is made. Where the numbers are still words, `N` is what a word is.
+/// when it is made.
 #[derive(Clone, Copy, Debug, PartialEq, Eq)]
-pub enum Call<N = u32> {
+pub enum Call {
     /// A work enters a pool.
-    Queue { work: N, pool: N },
+    Queue { work: u32, pool: u32 },
     /// A work enters a pool after so many ticks.
-    Delay { work: N, pool: N, ticks: N },
+    Delay { work: u32, pool: u32, ticks: u32 },
     /// The clock moves on to a tick.
-    Advance { tick: N },
+    Advance { tick: u32 },
     /// A queued work of the pool starts.
-    Start { pool: N },
+    Start { pool: u32 },
     /// A running work goes to sleep.
-    Sleep { work: N },
+    Sleep { work: u32 },
     /// A sleeping work wakes.
-    Wake { work: N },
+    Wake { work: u32 },
     /// The run of a work ends.
-    Finish { work: N },
+    Finish { work: u32 },
     /// A waiting work is withdrawn.
-    Cancel { work: N },
+    Cancel { work: u32 },
     /// A pool takes another limit.
-    Limit { pool: N, limit: N },
+    Limit { pool: u32, limit: u32 },
     /// A ticket is asked for.
     Flush,
     /// The ticket at a place is given back.
-    Collect { place: N },
+    Collect { place: u32 },
     /// The engine is shut.
     Close,
 }
@@ -119,7 +119,7 @@ impl Named for Verb {
     }
 }
 
-impl<N> Call<N> {
+impl Call {
     /// The verb of the call.
     pub fn verb(&self) -> Verb
         ensures { result ≡ verb_of self.now }

@@ -1,7 +1,7 @@
 -- Calls that are read one after another.
 use Rattle.std.proofs.Common.{ℕ, ◌≡◌, ◌+◌, Bool, true, false, cond, ltb, List, [], ◌∷◌, ◌++◌, length, Some, None, Ok, Err, Option, Result, sym, refl, ap, ◌∙◌}
 use Rattle.std.proofs.lemmas.List.{append_assoc}
-use Rattle.rules.specs.Format.{Call}
+use Rattle.rules.specs.declared.call.Call.{Call}
 use Rattle.grammar.specs.declared.numbered.NumberedCall.{NumberedCall}
 use Rattle.grammar.specs.Text.{Row, skipped, skips}
 use Rattle.grammar.specs.Faults.{Failure, next}
