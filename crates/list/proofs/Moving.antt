@@ -123,20 +123,17 @@ module _ {N : Type 0} {after before : N → Option ℕ} {bare : N → N} {ns ns�
             (not_around s (split i (members after ns list) t));
       }
 
--- the record that was let go was the front
-pub popped : {N : Type 0} {after before : N → Option ℕ} {bare : N → N} {ns ns' : List N} {list list' : LinkedList} {i : ℕ}
-    → Sound after before ns list → list.front ≡ Some i → Removed after before bare ns ns' list list' i → Popped after before bare ns ns' list list' (Some i)
-popped {after = after} {ns = ns} {list = list} {i = i} s is r =
-    let front = sym (front_is s) ∙ is in
-    record {
-      front = sym front;
-      sound = r.sound;
-      holds = (in_front i (members after ns list) front).1 ∙ ap (λ ys. i ∷ ys) (sym r.holds);
-      alone = r.alone;
-      leaves = r.leaves;
-    }
-
--- told by any name of that number
-pub popped_as : {N : Type 0} {after before : N → Option ℕ} {bare : N → N} {ns ns' : List N} {list list' : LinkedList} {i : ℕ} {r : Option ℕ}
+-- the record that was let go was the front, and r is its number
+pub popped : {N : Type 0} {after before : N → Option ℕ} {bare : N → N} {ns ns' : List N} {list list' : LinkedList} {i : ℕ} {r : Option ℕ}
     → Sound after before ns list → list.front ≡ Some i → Removed after before bare ns ns' list list' i → r ≡ Some i → Popped after before bare ns ns' list list' r
-popped_as {after = after} {before} {bare} {ns} {ns'} {list} {list'} s is d e = subst (λ q. Popped after before bare ns ns' list list' q) (sym e) (popped s is d)
+popped {after = after} {before} {bare} {ns} {ns'} {list} {list'} {i} s is d told =
+    let P : Option ℕ → Type 0 = λ q. Popped after before bare ns ns' list list' q in
+    let front = sym (front_is s) ∙ is in
+    subst P (sym told)
+    (record {
+      front = sym front;
+      sound = d.sound;
+      holds = (in_front i (members after ns list) front).1 ∙ ap (λ ys. i ∷ ys) (sym d.holds);
+      alone = d.alone;
+      leaves = d.leaves;
+    })
